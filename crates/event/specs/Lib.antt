@@ -1,3 +1,6 @@
 pub mod Faults
 pub mod Objects
 pub mod Ranges
+pub mod Order
+pub mod Entries
+pub mod Thins
