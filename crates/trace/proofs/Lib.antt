@@ -1,0 +1,17 @@
+pub mod Fronts
+pub mod Steps
+pub mod Skips
+pub mod Inverse
+pub mod Laying
+pub mod Checks
+pub mod Tables
+pub mod Layouts
+pub mod Scans
+pub mod Accepting
+pub mod EventsInverse
+pub mod Pasts
+pub mod Lives
+pub mod Mutexes
+pub mod Keeping
+pub mod WholeInverse
+pub mod Complete

@@ -1,0 +1,40 @@
+-- The events of a file after its sections.
+use mathlib.Core.Path.{_≡_, refl, sym, ap, _∙_}
+use mathlib.Core.List.{List}
+use Prim.Native.Nat.{ℕ}
+use lib.ListN.{length}
+use Rattle.std.specs.declared.result.Result.{Result}
+use Rattle.std.specs.declared.result.Result.the-variants.{Ok, Err}
+use Rattle.event.specs.declared.record.Event.{Event}
+use Rattle.event.specs.declared.counts.Counts.{Counts}
+use Rattle.event.specs.Ranges.{nearest}
+use Rattle.trace.specs.declared.entry.ObjectKind.{ObjectKind}
+use Rattle.trace.specs.declared.fault.EventFault.the-variants.{Sections}
+use Rattle.trace.specs.declared.fault.OrderFault.{OrderFault}
+use Rattle.trace.specs.declared.fault.OrderFault.the-variants.{Events}
+use Rattle.trace.specs.declared.trace.Trace.{Trace}
+use Rattle.trace.specs.Parse.{mapOk}
+use Rattle.trace.specs.Section.{itemsIn}
+use Rattle.trace.specs.Events.{gotEvents}
+use Rattle.trace.specs.Standings.{Standing, fresh, ruledFrom, kindsOf, kindTable}
+use Rattle.trace.specs.Layout.{Layout, layout, layoutOf, Laid}
+use Rattle.trace.specs.Trace.{contents, contentsOf, countsOf, countsIn, ordered, readTrace}
+use Rattle.trace.proofs.Steps.{ok-lift-then}
+
+-- the counts of the sections are those of their entries
+counts-laid : (t : Trace) → Laid t → countsIn t ≡ countsOf (itemsIn (t .threads)) (itemsIn (t .objects)) (itemsIn (t .variables))
+counts-laid t l = λ i. nearest (sym (l .threads-count) i) (sym (l .objects-count) i) (sym (l .variables-count) i)
+
+map-map : {X Y Z E : Type 0} (f : X → Y) (g : Y → Z) (r : Result X E) → mapOk (λ x. g (f x)) r ≡ mapOk g (mapOk f r)
+map-map f g (Ok x) = refl
+map-map f g (Err e) = refl
+
+-- what comes of the events, comes of the file
+pub scan-whole : (bs : List ℕ) (t : Trace) (x : Result (Unit {0}) OrderFault) (ks : List ObjectKind) (c : Counts) (s : Standing) → Ok (layoutOf t) ≡ layout bs → Laid t → ks ≡ kindTable (kindsOf (itemsIn (t .objects))) → c ≡ countsIn t → s ≡ fresh → mapOk (λ _. gotEvents c 0 (t .events .count) (t .events .bytes .now)) x ≡ ruledFrom ks c s 0 (t .events .count) (t .events .bytes .now) → mapOk (λ _. contentsOf t) x ≡ readTrace bs
+scan-whole bs t x ks c s h l ek ec es k =
+    let n = t .events .count in
+    let block = t .events .bytes .now in
+    let put : List Event → _ = contents (itemsIn (t .threads)) (itemsIn (t .objects)) (itemsIn (t .variables)) in
+    map-map (λ _. gotEvents (countsIn t) 0 n block) put x
+    ∙ ap (mapOk put) (ap (λ d. mapOk (λ _. gotEvents d 0 n block) x) (sym ec) ∙ k ∙ (λ i. ruledFrom (ek i) ((ec ∙ counts-laid t l) i) (es i) 0 n block))
+    ∙ sym (ok-lift-then (λ s. Events (Sections s)) ordered (sym h))

@@ -1,0 +1,32 @@
+use mathlib.Core.Path.{_≡_, refl, sym, ap, _∙_}
+use borrow.Author.Needs.{needs}
+use Rattle.std.specs.declared.result.Result.the-variants.{Ok}
+use Rattle.trace.specs.Standings.{standingOf}
+use Rattle.trace.proofs.Scans.{scan-whole}
+use Rattle.trace.proofs.file.scan.Needs as need
+
+pub kinds-requires : need.kinds-requires
+kinds-requires c κs = c .in-Continue-trace .ensures tt .few
+
+pub check-events-requires : need.check-events-requires
+check-events-requires c κs = c .in-Continue-trace .ensures tt .size .0
+
+pub returns : need.returns
+returns c =
+    let t = c .in-Continue-trace .trace in
+    let r = c .new-rules .result in
+    record {
+      value =
+          scan-whole (c .args .bytes .now) t (Ok tt) (r .kinds) (r .counts) (standingOf r) (c .in-Continue-trace .ensures tt .value) (c .in-Continue-trace .ensures tt .laid)
+          (c .new-rules .ensures .kinds ∙ c .kinds .ensures) (c .new-rules .ensures .counts ∙ c .counts .ensures) (c .new-rules .ensures .standing) (c .in-Continue-check-events .ensures tt);
+      laid = c .in-Continue-trace .ensures tt .laid;
+    }
+
+pub returns-in-Break-check-events : need.returns-in-Break-check-events
+returns-in-Break-check-events c =
+    let t = c .in-Continue-trace .trace in
+    let r = c .new-rules .result in
+    let w =
+    scan-whole (c .args .bytes .now) t (c .check-events .result) (r .kinds) (r .counts) (standingOf r) (c .in-Continue-trace .ensures tt .value) (c .in-Continue-trace .ensures tt .laid)
+    (c .new-rules .ensures .kinds ∙ c .kinds .ensures) (c .new-rules .ensures .counts ∙ c .counts .ensures) (c .new-rules .ensures .standing) (c .check-events .ensures) in
+    search needs

@@ -1,0 +1,14 @@
+pub mod Filed
+pub mod Parse
+pub mod Names
+pub mod Items
+pub mod Codes
+pub mod Section
+pub mod Entries
+pub mod Events
+pub mod Feed
+pub mod Rules
+pub mod Standings
+pub mod Layout
+pub mod Trace
+pub mod Encode

@@ -1,0 +1,27 @@
+// What the rules of threads and mutexes have to remember of the events so far.
+ghost use mathlib.Core.Path.{_≡_};
+ghost use Prim.Native.Nat.{ℕ};
+ghost use lib.ListN.{length};
+use crate::entry::ObjectKind;
+use event::Counts;
+
+pub mod steps;
+
+// How far a thread's life has come.
+#[derive(Clone, Copy, PartialEq, Eq, Debug)]
+pub enum Stage {
+    Unborn,
+    Forked,
+    Running,
+    Ended,
+}
+
+// The kinds of the objects, the stage of each thread and the holder of each mutex.
+#[derive(Clone, Copy)]
+pub struct Rules {
+    pub(crate) counts: Counts,
+    pub(crate) kinds: [ObjectKind; 512],
+    pub(crate) stages: [Stage; 16],
+    pub(crate) holders: [Option<u8>; 512],
+    ghost sizes: { (length kinds ≡ 512) × (length stages ≡ 16) × (length holders ≡ 512) },
+}
