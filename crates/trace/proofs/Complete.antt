@@ -40,13 +40,12 @@ use Rattle.trace.specs.Events.{letterAt, judged, eventBody, eventAt}
 use Rattle.trace.specs.Standings.{Standing, stepped, moved, fresh, ruledFrom, kindOf, kindsOf, kindAt, kindTable}
 use Rattle.trace.specs.Layout.{magicBody, magicFrom, blockBody, blockFrom, laidAs, withVariables, withObjects, withThreads, withMagic, layout}
 use Rattle.trace.specs.Trace.{Contents, countsOf, contents, ordered, readTrace}
-use Rattle.trace.specs.Encode.{encode, GoodName, Good, GoodEvent, Numbered, Lawful, AllBytes, Answers}
-use Rattle.trace.proofs.Steps.{err-ok, ok-then, ok-lift, ok-lift-then, ok-map, ok-if, ok-unless}
+use Rattle.trace.specs.Encode.{encode, GoodName, Good, GoodEvent, Numbered, Lawful}
+use Rattle.trace.proofs.Steps.{ok-then, ok-lift, ok-lift-then, ok-map, ok-if, ok-unless}
 use Rattle.trace.proofs.Inverse.{within-from}
 use Rattle.trace.proofs.Accepting.{Accepts, ok-stepped}
 use Rattle.trace.proofs.Keeping.{accepts-iff, keeps-kinds}
 use Rattle.trace.proofs.Tables.{table-kinds}
-use Rattle.trace.proofs.WholeInverse.{read-sound}
 
 take-complete : (p : ℕ) (xs rest : List ℕ) → takeFrom p (length xs) (xs ++ rest) ≡ Ok (xs, rest)
 take-complete p xs rest =
@@ -97,7 +96,7 @@ section-complete k low high t is rest p q g =
     ∙ ok-if (within low high (length is)) _ (Count at) (within-from low high (length is) p q)
     ∙ items-complete k t is rest g
 
-letter-complete : (l : Letter) → letterAt (codeLetter l) ≡ Some l
+pub letter-complete : (l : Letter) → letterAt (codeLetter l) ≡ Some l
 letter-complete Read = refl
 letter-complete Write = refl
 letter-complete Acquire = refl
@@ -172,7 +171,3 @@ read-complete c w =
     let keeps = keeps-kinds (kindAt (kindsOf (c .objects))) (kindAt ks) (c .events) (λ m. sym (table-kinds (kindsOf (c .objects)) few m)) (w .rules) in
     ok-lift-then (λ s. Events (Sections s)) ordered (layout-complete c w)
     ∙ ok-map (contents (c .threads) (c .objects) (c .variables)) (events-complete ks counts fresh 0 (c .events) (w .events-good) (w .numbered) (accepts-iff counts ks (c .events) (w .events-good) (w .numbered) .1 keeps))
-
-pub answers : (bs : List ℕ) (x : Result Contents OrderFault) → AllBytes bs → x ≡ readTrace bs → Answers bs x
-answers bs (Ok c) k h = read-sound bs c k (sym h)
-answers bs (Err f) k h = λ c w q. err-ok f c (h ∙ ap readTrace q ∙ read-complete c w)

@@ -14,7 +14,7 @@ use Rattle.std.specs.Joined.{joined}
 use Rattle.std.specs.Vec.{Every}
 use Rattle.std.specs.declared.result.Result.{Result}
 use Rattle.std.specs.declared.result.Result.the-variants.{Ok, Err}
-use Rattle.std.proofs.shelf.Lists.{take-append-drop, length-take-le}
+use Rattle.std.proofs.shelf.Lists.{take-append-drop, length-take-le, length-drop}
 use Rattle.std.proofs.shelf.Tests.{leb-true, le-leb, eqb-true}
 use Rattle.trace.specs.declared.fault.SectionFault.{SectionFault}
 use Rattle.trace.specs.declared.fault.SectionFault.the-variants.{Bytes, Entry, Count}
@@ -126,6 +126,13 @@ four-digits a b c d hb hc hd =
     let s : c ≡ (16777216 * a + 65536 * b + 256 * c + d) / 256 % 256 = omega arith in
     let u : d ≡ (16777216 * a + 65536 * b + 256 * c + d) % 256 = omega arith in
     λ i. q i ∷ r i ∷ s i ∷ u i ∷ []
+
+pub four-size : (p : ℕ) (bs : List ℕ) (x : ℕ × List ℕ) → fourFrom p bs ≡ Ok x → length bs ≡ 4 + length (x .1)
+four-size p bs x h =
+    let t = if-ok (leb 4 (length bs)) (Ok (16777216 * getD bs 0 0 + 65536 * getD bs 1 0 + 256 * getD bs 2 0 + getD bs 3 0, drop 4 bs)) (Ends p) x h in
+    let n = leb-true 4 (length bs) (t .0) in
+    let e : length (drop 4 bs) ≡ length (x .1) = ap (λ (z : ℕ × List ℕ). length (z .1)) (ok-ok (16777216 * getD bs 0 0 + 65536 * getD bs 1 0 + 256 * getD bs 2 0 + getD bs 3 0, drop 4 bs) x (t .1)) in
+    omega (arith, length-drop 4 bs)
 
 pub four-sound : (p : ℕ) (bs : List ℕ) (x : ℕ × List ℕ) → AllBytes bs → fourFrom p bs ≡ Ok x → bs ≡ four (x .0) ++ x .1
 four-sound p [] x k h = err-ok _ x h

@@ -16,7 +16,7 @@ use Rattle.trace.specs.declared.entry.ObjectKind.{ObjectKind}
 use Rattle.trace.specs.declared.entry.ObjectKind.the-variants.{Mutex}
 use Rattle.trace.specs.declared.rules.Stage.{Stage}
 use Rattle.trace.specs.declared.rules.Stage.the-variants.{Unborn, Running}
-use Rattle.trace.specs.Rules.{Among, Forks, Begins, Ends, Holds, Allowed, Keeps}
+use Rattle.trace.specs.Rules.{Among, Forks, Begins, Ends, Life, Holds, Allowed, Keeps}
 use Rattle.trace.specs.Standings.{Standing, fresh, moved, lives, locks, kindAt, stageAt, holderAt}
 use Rattle.trace.specs.Encode.{GoodEvent, Numbered}
 use Rattle.trace.proofs.Accepting.{Accepts}
@@ -27,11 +27,11 @@ use Rattle.trace.proofs.Mutexes.{HolderIs, Held, locks-iff, held-more, locked-
 
 -- after the events L, whose places are below i, all that is remembered is right
 pub record Right (ks : List ObjectKind) (L : List Event) (i : ℕ) (s : Standing) : Type 0 where
-  stages-long : length (s .stages) ≡ 16
-  holders-long : length (s .holders) ≡ 512
-  staged : Staged L (s .stages)
-  held : Held (kindAt ks) L (s .holders)
-  below : (f : Event) → f ∈ L → f .place < i
+  pub stages-long : length (s .stages) ≡ 16
+  pub holders-long : length (s .holders) ≡ 512
+  pub staged : Staged L (s .stages)
+  pub held : Held (kindAt ks) L (s .holders)
+  pub below : (f : Event) → f ∈ L → f .place < i
 
 -- each of the events may come after L and those before it
 abbrev Follows : (ℕ → ObjectKind) → List Event → List Event → Type 0
@@ -40,13 +40,16 @@ Follows kinds L es = (A : List Event) (e : Event) (M : List Event) → es ≡ A 
 empty : {X : Type 0} (A M : List Event) (e : Event) → [] ≡ A ++ e ∷ M → X
 empty A M e q = let n = ap length q in let m = length-append A (e ∷ M) in absurd (omega arith)
 
-allowed-iff : (c : Counts) (ks : List ObjectKind) (L : List Event) (i : ℕ) (s : Standing) (e : Event) → Right ks L i s → GoodEvent c e → ((lives (s .stages) e ≡ true) × (locks ks (s .holders) e ≡ true)) ↔ Allowed (kindAt ks) L e
+pub lives-test : (c : Counts) (ks : List ObjectKind) (L : List Event) (i : ℕ) (s : Standing) (e : Event) → Right ks L i s → GoodEvent c e → (lives (s .stages) e ≡ true) ↔ Life L (e .letter) (e .thread) (e .number)
+lives-test c ks L i s e r g = lives-iff c L (s .stages) (e .letter) (e .thread) (e .number) (r .staged) (g .0) (g .1)
+
+pub allowed-iff : (c : Counts) (ks : List ObjectKind) (L : List Event) (i : ℕ) (s : Standing) (e : Event) → Right ks L i s → GoodEvent c e → ((lives (s .stages) e ≡ true) × (locks ks (s .holders) e ≡ true)) ↔ Allowed (kindAt ks) L e
 allowed-iff c ks L i s e r g =
-    let life = lives-iff c L (s .stages) (e .letter) (e .thread) (e .number) (r .staged) (g .0) (g .1) in
+    let life = lives-test c ks L i s e r g in
     let mutex = locks-iff c ks L (s .holders) (e .letter) (e .thread) (e .number) (r .held) (g .1) in
     (λ p. record { life = life .0 (p .0); mutex = mutex .0 (p .1) }, λ a. (life .1 (a .life), mutex .1 (a .mutex)))
 
-right-more : (c : Counts) (ks : List ObjectKind) (L : List Event) (i : ℕ) (s : Standing) (e : Event) → Right ks L i s → GoodEvent c e → e .place ≡ i → Allowed (kindAt ks) L e → Right ks (L ++ e ∷ []) (i + 1) (moved s e)
+pub right-more : (c : Counts) (ks : List ObjectKind) (L : List Event) (i : ℕ) (s : Standing) (e : Event) → Right ks L i s → GoodEvent c e → e .place ≡ i → Allowed (kindAt ks) L e → Right ks (L ++ e ∷ []) (i + 1) (moved s e)
 right-more c ks L i s e r g p a =
     let ok = allowed-iff c ks L i s e r g .1 a in
     record {
@@ -93,7 +96,7 @@ fresh-staged : Staged [] (fresh .stages)
 fresh-staged zero k = (inl (refl, none (Forks 0)), none (Ends 0))
 fresh-staged (suc t) k = subst (StageIs [] (suc t)) (sym (same-everywhere 15 t Unborn)) (unborn (suc t) (λ z. omega arith))
 
-fresh-right : (ks : List ObjectKind) → Right ks [] 0 fresh
+pub fresh-right : (ks : List ObjectKind) → Right ks [] 0 fresh
 fresh-right ks = record {
   stages-long = refl;
   holders-long = refl;

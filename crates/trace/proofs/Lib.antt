@@ -15,3 +15,8 @@ pub mod Mutexes
 pub mod Keeping
 pub mod WholeInverse
 pub mod Complete
+pub mod EntryFaults
+pub mod SectionFaults
+pub mod EventFaults
+pub mod FileFaults
+pub mod Exactness

@@ -68,3 +68,26 @@ okOr-ok (Some y) e x h = ap Some (ok-ok y x h)
 
 pub ok-unless : {X E : Type 0} (b : Bool) (e : E) (r : Result X E) → b ≡ false → cond b (Err e) r ≡ r
 ok-unless b e r h = ap (λ t. cond t (Err e) r) h
+
+-- what a parser's `Err` says of its steps
+pub ok-err : {X E : Type 0} {Z : Type 0} (x : X) (e : E) → _≡_ {A = Result X E} (Ok x) (Err e) → Z
+ok-err x e h = let z : _≡_ {A = ℕ} 0 1 = cc in absurd (omega arith)
+
+pub err-err : {X E : Type 0} (e f : E) → _≡_ {A = Result X E} (Err e) (Err f) → e ≡ f
+err-err e f h = cc
+
+pub then-err : {X Y E : Type 0} (r : Result X E) (k : X → Result Y E) (f : E) → andThen r k ≡ Err f → (r ≡ Err f) ⊎ ((x : X) × (r ≡ Ok x) × (k x ≡ Err f))
+then-err {X} {Y} {E} (Ok x) k f h = inr (x, refl, h)
+then-err {X} {Y} {E} (Err e) k f h = inl (ap Err (err-err {X = Y} e f h))
+
+pub lift-then-err : {X Y E F : Type 0} (g : E → F) (r : Result X E) (k : X → Result Y F) (f : F) → andThen (lift g r) k ≡ Err f → ((e : E) × (r ≡ Err e) × (g e ≡ f)) ⊎ ((x : X) × (r ≡ Ok x) × (k x ≡ Err f))
+lift-then-err g (Ok x) k f h = inr (x, refl, h)
+lift-then-err {X} {Y} g (Err e) k f h = inl (e, refl, err-err {X = Y} (g e) f h)
+
+pub map-err : {X Y E : Type 0} (g : X → Y) (r : Result X E) (f : E) → mapOk g r ≡ Err f → r ≡ Err f
+map-err g (Ok x) f h = ok-err (g x) f h
+map-err {X} {Y} g (Err e) f h = ap Err (err-err {X = Y} e f h)
+
+pub either-err : {X E : Type 0} (b : Bool) (r s : Result X E) (f : E) → cond b r s ≡ Err f → ((b ≡ true) × (r ≡ Err f)) ⊎ ((b ≡ false) × (s ≡ Err f))
+either-err true r s f h = inl (refl, h)
+either-err false r s f h = inr (refl, h)

@@ -6,13 +6,10 @@ use Prim.Native.Nat.{ℕ, _+_, _≤_, _<_}
 use lib.ListN.{length}
 use Rattle.std.specs.Joined.{joined}
 use Rattle.std.specs.Vec.{Every}
-use Rattle.std.specs.declared.result.Result.{Result}
-use Rattle.std.specs.declared.result.Result.the-variants.{Ok, Err}
 use Rattle.event.specs.declared.record.Event.{Event}
 use Rattle.event.specs.declared.counts.Counts.{Counts}
 use Rattle.event.specs.Ranges.{limit}
 use Rattle.event.specs.Thins.{access}
-use Rattle.trace.specs.declared.fault.OrderFault.{OrderFault}
 use Rattle.trace.specs.declared.entry.SectionKind.{SectionKind}
 use Rattle.trace.specs.declared.entry.SectionKind.the-variants.{Threads, Objects, Variables}
 use Rattle.trace.specs.Names.{allGood}
@@ -67,8 +64,3 @@ pub record Lawful (c : Contents) : Type 0 where
 
 abbrev pub AllBytes : List ℕ → Type 0
 AllBytes bs = Every (λ b. b < 256) bs
-
--- An answer for a file's bytes: the lawful contents that they are the encoding of, or a fault where they encode none.
-abbrev pub Answers : List ℕ → Result Contents OrderFault → Type 0
-Answers bs (Ok c) = (bs ≡ encode c) × Lawful c
-Answers bs (Err f) = (c : Contents) → Lawful c → bs ≡ encode c → ⊥

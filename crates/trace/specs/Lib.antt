@@ -12,3 +12,5 @@ pub mod Standings
 pub mod Layout
 pub mod Trace
 pub mod Encode
+pub mod Refusals
+pub mod Exact

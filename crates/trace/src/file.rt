@@ -10,7 +10,7 @@ ghost use Rattle.trace.specs.Events.{gotEvents};
 ghost use Rattle.trace.specs.Standings.{kindOf, kindsOf, kindTable, ruledFrom, standingOf};
 ghost use Rattle.trace.specs.Layout.{Laid};
 ghost use Rattle.trace.specs.Trace.{readTrace, contentsOf};
-ghost use Rattle.trace.specs.Encode.{Answers};
+ghost use Rattle.trace.specs.Exact.{Answers};
 use crate::entries::EntriesIterator;
 use crate::entry::Entry;
 use crate::entry::ObjectKind;
@@ -73,7 +73,7 @@ fn scan(bytes: &[u8]) -> Result<Trace<'_>, OrderFault>
     Ok(trace)
 }
 
-// Accepts exactly the trace files.
+// Accepts exactly the trace files, and refuses any other for its first fault. An accepted trace borrows from the bytes.
 pub fn read(bytes: &[u8]) -> Result<Trace<'_>, OrderFault>
     ensures value { λ x. ⌜ mapOk contentsOf x ≡ readTrace (now (bytes .entry)) ⌝ }
     ensures exact { λ x. ⌜ Answers (now (bytes .entry)) (mapOk contentsOf x) ⌝ }

@@ -1,5 +1,5 @@
 use Rattle.trace.proofs.Inverse.{all-bytes}
-use Rattle.trace.proofs.Complete.{answers}
+use Rattle.trace.proofs.Exactness.{answers}
 use Rattle.trace.proofs.file.read.Needs as need
 
 pub returns : need.returns
