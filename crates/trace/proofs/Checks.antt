@@ -59,6 +59,12 @@ ruled-more ks c s i n bs es h =
     let d = map-ok (λ l. e ∷ l) (ruledFrom ks c (b .0) (i + 1) n (drop 6 bs)) es (b .2) in
     (e, b .0, d .0, a .1, b .1, d .1, d .2)
 
+ruled-length : (ks : List ObjectKind) (c : Counts) (s : Standing) (i n : ℕ) (bs : List ℕ) (es : List Event) → ruledFrom ks c s i n bs ≡ Ok es → length es ≡ n
+ruled-length ks c s i zero bs es h = sym (ap length (ok-ok {E = OrderFault} [] es h))
+ruled-length ks c s i (suc n) bs es h =
+    let a = ruled-more ks c s i n bs es h in
+    sym (ap length (a .6)) ∙ ap suc (ruled-length ks c (a .1) (i + 1) n (drop 6 bs) (a .2) (a .5))
+
 pub got-events : (ks : List ObjectKind) (c : Counts) (s : Standing) (i n : ℕ) (bs : List ℕ) (es : List Event) → length bs ≡ 6 * n → ruledFrom ks c s i n bs ≡ Ok es → gotEvents c i n bs ≡ es
 got-events ks c s i zero bs es m h = ok-ok {E = OrderFault} [] es h
 got-events ks c s i (suc n) bs es m h =
@@ -96,3 +102,7 @@ pub verdict-good : (ks : List ObjectKind) (c : Counts) (s z : Standing) (i n m :
 verdict-good ks c s z i n m bs e q h k =
     let rest : Standing → Result (Unit {0}) OrderFault = λ y. verdict (ruledFrom ks c y (i + 1) m (drop 6 bs)) in
     ap (λ r. andThen r rest) k ∙ ap (λ r. andThen (lift Events r) (λ x. andThen (stepped ks s x) rest)) h ∙ sym (verdict-step ks c s i n m bs q)
+
+-- the events that keep the rules are all there
+pub got-length : (ks : List ObjectKind) (c : Counts) (s : Standing) (n : ℕ) (bs : List ℕ) → Ok (gotEvents c 0 n bs) ≡ ruledFrom ks c s 0 n bs → length (gotEvents c 0 n bs) ≡ n
+got-length ks c s n bs h = ruled-length ks c s 0 n bs (gotEvents c 0 n bs) (sym h)

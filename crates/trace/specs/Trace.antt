@@ -1,4 +1,5 @@
 -- A whole file, as it is read.
+use mathlib.Core.Path.{_≡_}
 use mathlib.Core.List.{List}
 use Prim.Native.Nat.{ℕ}
 use lib.ListN.{length}
@@ -47,3 +48,10 @@ abbrev pub contentsOf : Trace → Contents
 contentsOf t =
     contents (itemsIn (t .threads)) (itemsIn (t .objects)) (itemsIn (t .variables))
     (gotEvents (countsIn t) 0 (t .events .count) (t .events .bytes .now))
+
+-- the counts that a trace answers are those of its contents
+pub record Counted (t : Trace) : Type 0 where
+  pub threads : countsIn t .threads ≡ length (contentsOf t .threads)
+  pub objects : countsIn t .objects ≡ length (contentsOf t .objects)
+  pub variables : countsIn t .variables ≡ length (contentsOf t .variables)
+  pub events : t .events .count ≡ length (contentsOf t .events)

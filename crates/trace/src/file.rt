@@ -9,7 +9,7 @@ ghost use Rattle.trace.specs.Section.{itemsIn};
 ghost use Rattle.trace.specs.Events.{gotEvents};
 ghost use Rattle.trace.specs.Standings.{kindOf, kindsOf, kindTable, ruledFrom, standingOf};
 ghost use Rattle.trace.specs.Layout.{Laid};
-ghost use Rattle.trace.specs.Trace.{readTrace, contentsOf};
+ghost use Rattle.trace.specs.Trace.{readTrace, contentsOf, Counted};
 ghost use Rattle.trace.specs.Exact.{Answers};
 use crate::entries::EntriesIterator;
 use crate::entry::Entry;
@@ -52,7 +52,8 @@ fn kinds(objects: Section<'_>) -> [ObjectKind; 512]
 // Reads each event and holds it to the rules.
 fn check_events(mut rules: Rules, events: Block<'_>) -> Result<(), OrderFault>
     requires { ⌜ length (events .bytes .now) ≡ 6 * events .count ⌝ }
-    ensures { λ x. ⌜ mapOk (λ _. gotEvents (rules .counts) 0 (events .entry .count) (events .entry .bytes .now)) x ≡ ruledFrom (rules .kinds) (rules .counts) (standingOf rules) 0 (events .entry .count) (events .entry .bytes .now) ⌝ }
+    ensures length { λ x. ⌜ made x (λ _. length (gotEvents (rules .counts) 0 (events .entry .count) (events .entry .bytes .now)) ≡ events .entry .count) ⌝ }
+    ensures value { λ x. ⌜ mapOk (λ _. gotEvents (rules .counts) 0 (events .entry .count) (events .entry .bytes .now)) x ≡ ruledFrom (rules .kinds) (rules .counts) (standingOf rules) 0 (events .entry .count) (events .entry .bytes .now) ⌝ }
 {
     let mut rest = events.bytes;
     for place in 0..events.count {
@@ -66,6 +67,7 @@ fn check_events(mut rules: Rules, events: Block<'_>) -> Result<(), OrderFault>
 fn scan(bytes: &[u8]) -> Result<Trace<'_>, OrderFault>
     ensures value { λ x. ⌜ mapOk contentsOf x ≡ readTrace (now (bytes .entry)) ⌝ }
     ensures laid { λ x. ⌜ made x Laid ⌝ }
+    ensures events { λ x. ⌜ made x (λ t. length (contentsOf t .events) ≡ t .events .count) ⌝ }
 {
     let trace = sections(bytes)?;
     let rules = Rules::new(trace.counts(), kinds(trace.objects));
@@ -78,6 +80,7 @@ pub fn read(bytes: &[u8]) -> Result<Trace<'_>, OrderFault>
     ensures value { λ x. ⌜ mapOk contentsOf x ≡ readTrace (now (bytes .entry)) ⌝ }
     ensures exact { λ x. ⌜ Answers (now (bytes .entry)) (mapOk contentsOf x) ⌝ }
     ensures laid { λ x. ⌜ made x Laid ⌝ }
+    ensures counted { λ x. ⌜ made x Counted ⌝ }
 {
     scan(bytes)
 }

@@ -4,7 +4,7 @@ use borrow.Author.Needs.{needs}
 use Prim.Native.Nat.{_+_, _-_}
 use Rattle.std.specs.declared.result.Result.the-variants.{Ok}
 use Rattle.trace.specs.Standings.{ruledFrom, standingOf}
-use Rattle.trace.proofs.Checks.{verdict, verdict-step, verdict-good, told, got-events, event-range}
+use Rattle.trace.proofs.Checks.{verdict, verdict-step, verdict-good, told, got-events, got-length, event-range}
 use Rattle.trace.proofs.file.check_events.Needs as need
 
 pub step-requires : need.step-requires
@@ -29,13 +29,18 @@ pub returns-in-Break-e : need.returns-in-Break-e
 returns-in-Break-e c =
     let l = c .loop-place in
     let e = verdict-step (l .rules .kinds) (l .rules .counts) (standingOf (l .rules)) (l .place) (c .args .events .count - l .place) (c .args .events .count - (l .place + 1)) (l .rest .now) (omega arith) in
-    told _ _ _ (λ es h. got-events (c .args .rules .kinds) (c .args .rules .counts) (standingOf (c .args .rules)) 0 (c .args .events .count) (c .args .events .bytes .now) es (c .pre) h) (search needs)
+    record { length = search needs; value = told _ _ _ (λ es h. got-events (c .args .rules .kinds) (c .args .rules .counts) (standingOf (c .args .rules)) 0 (c .args .events .count) (c .args .events .bytes .now) es (c .pre) h) (search needs) }
 
 pub returns-in-Break-step : need.returns-in-Break-step
 returns-in-Break-step c =
     let l = c .loop-place in
     let e = verdict-step (l .rules .kinds) (l .rules .counts) (standingOf (l .rules)) (l .place) (c .args .events .count - l .place) (c .args .events .count - (l .place + 1)) (l .rest .now) (omega arith) in
-    told _ _ _ (λ es h. got-events (c .args .rules .kinds) (c .args .rules .counts) (standingOf (c .args .rules)) 0 (c .args .events .count) (c .args .events .bytes .now) es (c .pre) h) (search needs)
+    record { length = search needs; value = told _ _ _ (λ es h. got-events (c .args .rules .kinds) (c .args .rules .counts) (standingOf (c .args .rules)) 0 (c .args .events .count) (c .args .events .bytes .now) es (c .pre) h) (search needs) }
 
 pub returns : need.returns
-returns c = told (Ok tt) _ _ (λ es h. got-events (c .args .rules .kinds) (c .args .rules .counts) (standingOf (c .args .rules)) 0 (c .args .events .count) (c .args .events .bytes .now) es (c .pre) h) (search needs)
+returns c =
+    let r = c .args .rules in
+    let n = c .args .events .count in
+    let bs = c .args .events .bytes .now in
+    let v = told (Ok tt) _ _ (λ es h. got-events (r .kinds) (r .counts) (standingOf r) 0 n bs es (c .pre) h) (search needs) in
+    record { length = got-length (r .kinds) (r .counts) (standingOf r) n bs v; value = v }

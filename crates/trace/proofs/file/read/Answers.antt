@@ -1,8 +1,10 @@
 use Rattle.trace.proofs.Inverse.{all-bytes}
-use Rattle.trace.proofs.Exactness.{answers}
+use Rattle.trace.proofs.Exactness.{answers, all-counted}
 use Rattle.trace.proofs.file.read.Needs as need
 
 pub returns : need.returns
 returns c =
     let bs = c .args .bytes .now in
-    record { value = c .scan .ensures .value; exact = answers bs _ (all-bytes bs (c .typed .bytes)) (c .scan .ensures .value); laid = c .scan .ensures .laid }
+    let s = c .scan .ensures in
+    let e = answers bs _ (all-bytes bs (c .typed .bytes)) (s .value) in
+    record { value = s .value; exact = e; laid = s .laid; counted = all-counted bs (c .scan .result) (s .laid) (s .events) e }

@@ -1,6 +1,8 @@
 use mathlib.Core.Path.{_≡_, refl, sym, ap, _∙_}
 use borrow.Author.Needs.{needs}
 use Rattle.std.specs.declared.result.Result.the-variants.{Ok}
+use lib.ListN.{length}
+use Rattle.trace.specs.Events.{gotEvents}
 use Rattle.trace.specs.Standings.{standingOf}
 use Rattle.trace.proofs.Scans.{scan-whole}
 use Rattle.trace.proofs.file.scan.Needs as need
@@ -18,8 +20,9 @@ returns c =
     record {
       value =
           scan-whole (c .args .bytes .now) t (Ok tt) (r .kinds) (r .counts) (standingOf r) (c .in-Continue-trace .ensures tt .value) (c .in-Continue-trace .ensures tt .laid)
-          (c .new-rules .ensures .kinds ∙ c .kinds .ensures) (c .new-rules .ensures .counts ∙ c .counts .ensures) (c .new-rules .ensures .standing) (c .in-Continue-check-events .ensures tt);
+          (c .new-rules .ensures .kinds ∙ c .kinds .ensures) (c .new-rules .ensures .counts ∙ c .counts .ensures) (c .new-rules .ensures .standing) (c .in-Continue-check-events .ensures tt .value);
       laid = c .in-Continue-trace .ensures tt .laid;
+    events = ap (λ d. length (gotEvents d 0 (t .events .count) (t .events .bytes .now))) (sym (c .new-rules .ensures .counts ∙ c .counts .ensures)) ∙ c .in-Continue-check-events .ensures tt .length;
     }
 
 pub returns-in-Break-check-events : need.returns-in-Break-check-events
@@ -28,5 +31,5 @@ returns-in-Break-check-events c =
     let r = c .new-rules .result in
     let w =
     scan-whole (c .args .bytes .now) t (c .check-events .result) (r .kinds) (r .counts) (standingOf r) (c .in-Continue-trace .ensures tt .value) (c .in-Continue-trace .ensures tt .laid)
-    (c .new-rules .ensures .kinds ∙ c .kinds .ensures) (c .new-rules .ensures .counts ∙ c .counts .ensures) (c .new-rules .ensures .standing) (c .check-events .ensures) in
+    (c .new-rules .ensures .kinds ∙ c .kinds .ensures) (c .new-rules .ensures .counts ∙ c .counts .ensures) (c .new-rules .ensures .standing) (c .check-events .ensures .value) in
     search needs
