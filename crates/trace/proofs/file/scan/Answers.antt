@@ -22,7 +22,7 @@ returns c =
           scan-whole (c .args .bytes .now) t (Ok tt) (r .kinds) (r .counts) (standingOf r) (c .in-Continue-trace .ensures tt .value) (c .in-Continue-trace .ensures tt .laid)
           (c .new-rules .ensures .kinds ∙ c .kinds .ensures) (c .new-rules .ensures .counts ∙ c .counts .ensures) (c .new-rules .ensures .standing) (c .in-Continue-check-events .ensures tt .value);
       laid = c .in-Continue-trace .ensures tt .laid;
-    events = ap (λ d. length (gotEvents d 0 (t .events .count) (t .events .bytes .now))) (sym (c .new-rules .ensures .counts ∙ c .counts .ensures)) ∙ c .in-Continue-check-events .ensures tt .length;
+      events = ap (λ d. length (gotEvents d 0 (t .events .count) (t .events .bytes .now))) (sym (c .new-rules .ensures .counts ∙ c .counts .ensures)) ∙ c .in-Continue-check-events .ensures tt .length;
     }
 
 pub returns-in-Break-check-events : need.returns-in-Break-check-events

@@ -1,0 +1,4 @@
+// Tests by table: trace files written as short scripts, and what must come of them.
+#[cfg(test)]
+mod reader;
+mod script;
