@@ -1,1 +1,4 @@
+pub mod Offering
 pub mod Same
+pub mod Sounds
+pub mod Thinning

@@ -4,3 +4,4 @@ pub mod Ranges
 pub mod Order
 pub mod Entries
 pub mod Thins
+pub mod Offers
