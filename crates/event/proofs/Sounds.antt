@@ -1,7 +1,7 @@
 -- Sound lists: that a list is sound has one proof, and what follows of its parts.
 use mathlib.Core.HLevel.{Unit-prop}
 use mathlib.Core.Logic.{∥∥₁-elim}
-use mathlib.Core.List.{List, [], _∷_}
+use mathlib.Core.List.{List, [], _∷_, _++_}
 use Prim.Native.Nat.{ℕ, _+_, _≤_}
 use native.Mathlib.Bridge.{le-prop}
 use native.Mathlib.Omega.{arith}
@@ -65,3 +65,14 @@ sound-short c L s = let r = short-from c 0 L (omega arith) (low L) s in omega (a
     low : (M : List Event) → Every (λ f. 0 ≤ f .place) M
     low [] = tt
     low (f ∷ M) = (omega arith, low M)
+
+after-front : (e : Event) (L M : List Event) → After e (L ++ M) → After e L
+after-front e [] M a = tt
+after-front e (f ∷ L) M a = (a .0, after-front e L M (a .1))
+
+-- the front of a sound list is sound
+pub sound-front : (c : Counts) (L M : List Event) → Sound c (L ++ M) → Sound c L
+sound-front c [] M s = sound-none c
+sound-front c (e ∷ L) M s =
+    let r = sound-front c L M (sound-tail c e (L ++ M) s) in
+    record { rising = (after-front e L M (s .rising .0), r .rising); placed = (s .placed .0, r .placed) }
