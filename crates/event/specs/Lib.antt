@@ -5,3 +5,4 @@ pub mod Order
 pub mod Entries
 pub mod Thins
 pub mod Offers
+pub mod Sieves
