@@ -49,3 +49,11 @@ sieved-alike P t u past past′ (e ∷ L) h p =
     let first = ap (λ l. t l e) (sym (append-nil past)) ∙ h [] e (p .0) ∙ ap (λ l. u l e) (append-nil past′) in
     let more = sieved-alike P t u (past ++ e ∷ []) (past′ ++ e ∷ []) L (λ M f q. ap (λ l. t l f) (append-assoc past (e ∷ []) M) ∙ h (e ∷ M) f q ∙ ap (λ l. u l f) (sym (append-assoc past′ (e ∷ []) M))) (p .1) in
     λ i. cond (first i) (e ∷ more i) (more i)
+
+-- the same, of tests that agree on every event
+pub sieved-like : (t u : List Event → Event → Bool) (past past′ L : List Event) → ((M : List Event) (e : Event) → t (past ++ M) e ≡ u (past′ ++ M) e) → sieved t past L ≡ sieved u past′ L
+sieved-like t u past past′ L h = sieved-alike (λ _. Unit {0}) t u past past′ L (λ M e _. h M e) (every L)
+  where
+    every : (N : List Event) → Every (λ _. Unit {0}) N
+    every [] = tt
+    every (e ∷ N) = (tt, every N)

@@ -1,2 +1,3 @@
 mod Copying
 mod Fronts
+mod Picking

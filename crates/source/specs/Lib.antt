@@ -1,2 +1,6 @@
+pub mod Answered
 pub mod Handed
 pub mod Listed
+pub mod Picked
+pub mod Piles
+pub mod Sampled

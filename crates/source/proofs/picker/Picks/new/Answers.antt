@@ -1,0 +1,11 @@
+use native.Mathlib.Omega.{arith}
+use Rattle.source.proofs.Picking.{enough, own-copy}
+use Rattle.source.proofs.picker.Picks.new.Needs as need
+
+pub returns : need.returns
+returns c =
+    let v = c .args .counts .variables in
+    record {
+      answer = enough v (c .args .bytes .now) (omega (arith, c .if-bytes-variables .left, c .variables-variables .ensures));
+      copy = own-copy v (c .variables-variables .result) (c .args .bytes .now) (c .copy-from-slice .last .self) (c .variables-variables .ensures) (c .copy-from-slice .ensures .after);
+    }
