@@ -1,4 +1,5 @@
 -- What a sampler lets through.
+use mathlib.Core.Path.{_≡_}
 use mathlib.Core.Bool.{Bool, true, cond, _&&_}
 use mathlib.Core.List.{List, [], _∷_, _++_}
 use Prim.Native.Nat.{ℕ, _+_, _%_}
@@ -41,3 +42,10 @@ sampled burst period L = sampledFrom burst period [] L
 -- the numbers of each thread's next access after e, taken down by the period
 abbrev pub advanced : ℕ → List ℕ → Event → List ℕ
 advanced period next e = cond (access e) (set next (e .thread) ((getD next (e .thread) 0 + 1) % period)) next
+
+-- One event more is let through exactly if it is no access, or one of which c accesses of its thread came before, with c mod period < burst.
+abbrev pub Accesses-are-numbered-by-thread : Type 0
+Accesses-are-numbered-by-thread =
+    (burst period : ℕ) (past : List Event) (e : Event)
+    → sampled burst period (past ++ e ∷ [])
+    ≡ sampled burst period past ++ cond (access e) (cond (ltb (accessesOf (e .thread) past % period) burst) (e ∷ []) []) (e ∷ [])

@@ -3,4 +3,5 @@ pub mod filter;
 pub mod lent;
 pub mod list;
 pub mod picker;
+pub mod sampler;
 pub mod source;
