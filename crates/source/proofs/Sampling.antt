@@ -1,5 +1,5 @@
 -- A sampler's counters, and what it lets through, event by event.
-use mathlib.Core.Path.{_≡_, refl, sym, ap, subst, _∙_}
+use mathlib.Core.Path.{_≡_, refl, sym, ap, _∙_}
 use mathlib.Core.Bool.{Bool, true, false, cond, _&&_}
 use mathlib.Core.List.{List, [], _∷_, _++_}
 use mathlib.Core.Logic.{_≢_}
@@ -10,29 +10,27 @@ use lib.Dec.{eqb, ltb}
 use lib.ListN.{length, getD, set, replicate}
 use Rattle.std.proofs.shelf.Lists.{getD-set-same, getD-set-other}
 use Rattle.std.proofs.shelf.Tests.{eqb-true, eqb-false}
-use Rattle.event.specs.declared.counts.Counts.{Counts}
 use Rattle.event.specs.declared.record.Event.{Event}
 use Rattle.event.specs.Sieves.{sieved}
-use Rattle.event.specs.Thins.{Sound, access}
+use Rattle.event.specs.Thins.{access}
 use Rattle.event.proofs.Sieving.{sieved-append, sieved-like}
-use Rattle.event.proofs.Sounds.{sound-first}
 use Rattle.source.specs.Sampled.{accessesOf, number, within, sampledFrom, sampled, advanced, Accesses-are-numbered-by-thread}
 
 -- The counter of the event's thread goes up by one at an access, and no other does. It may be taken down by the period, since only what is left modulo the period counts.
-advanced-number : (p : ℕ) (next : List ℕ) (e : Event) (M : List Event) (t : ℕ) → e .thread < length next → number next (e ∷ M) t % p ≡ number (advanced p next e) M t % p
-advanced-number p next e M t h = go (access e) (eqb (e .thread) t) refl
+advanced-number : (p : ℕ) (next : List ℕ) (e : Event) (M : List Event) (t : ℕ) → (access e ≡ true → e .thread < length next) → number next (e ∷ M) t % p ≡ number (advanced p next e) M t % p
+advanced-number p next e M t h = go (access e) (eqb (e .thread) t) refl refl
   where
-    go : (a b : Bool) → eqb (e .thread) t ≡ b → (getD next t 0 + cond (a && b) (1 + accessesOf t M) (accessesOf t M)) % p ≡ (getD (cond a (set next (e .thread) ((getD next (e .thread) 0 + 1) % p)) next) t 0 + accessesOf t M) % p
-    go false b q = refl
-    go true true q =
+    go : (a b : Bool) → access e ≡ a → eqb (e .thread) t ≡ b → (getD next t 0 + cond (a && b) (1 + accessesOf t M) (accessesOf t M)) % p ≡ (getD (cond a (set next (e .thread) ((getD next (e .thread) 0 + 1) % p)) next) t 0 + accessesOf t M) % p
+    go false b a q = refl
+    go true true a q =
         let x = getD next (e .thread) 0 in
         let n = accessesOf t M in
         let s = eqb-true (e .thread) t q in
         let same : getD next t 0 + (1 + n) ≡ x + 1 + n = ap (λ k. getD next k 0 + (1 + n)) (sym s) ∙ omega arith in
         ap (λ k. k % p) same ∙ sym (mod-add-mod (x + 1) p n)
-        ∙ ap (λ k. (k + n) % p) (sym (getD-set-same next (e .thread) ((x + 1) % p) 0 h))
+        ∙ ap (λ k. (k + n) % p) (sym (getD-set-same next (e .thread) ((x + 1) % p) 0 (h a)))
         ∙ ap (λ k. (getD (set next (e .thread) ((x + 1) % p)) k 0 + n) % p) s
-    go true false q =
+    go true false a q =
         let other : t ≢ e .thread = λ s. eqb-false (e .thread) t q (sym s) in
         ap (λ k. (k + accessesOf t M) % p) (sym (getD-set-other next (e .thread) t ((getD next (e .thread) 0 + 1) % p) 0 other))
 
@@ -40,20 +38,16 @@ advanced-number p next e M t h = go (access e) (eqb (e .thread) t) refl
 within-alike : (b p : ℕ) (f g : List ℕ) (M N : List Event) (e : Event) → number f M (e .thread) % p ≡ number g N (e .thread) % p → within b p f M e ≡ within b p g N e
 within-alike b p f g M N e h = ap (λ n. cond (access e) (ltb n b) true) h
 
-sampled-more : (b p : ℕ) (next : List ℕ) (e : Event) (L : List Event) → e .thread < length next → sampledFrom b p next (e ∷ L) ≡ cond (within b p next [] e) (e ∷ sampledFrom b p (advanced p next e) L) (sampledFrom b p (advanced p next e) L)
+sampled-more : (b p : ℕ) (next : List ℕ) (e : Event) (L : List Event) → (access e ≡ true → e .thread < length next) → sampledFrom b p next (e ∷ L) ≡ cond (within b p next [] e) (e ∷ sampledFrom b p (advanced p next e) L) (sampledFrom b p (advanced p next e) L)
 sampled-more b p next e L h =
     let same = sieved-like (within b p next) (within b p (advanced p next e)) (e ∷ []) [] L (λ M f. within-alike b p next (advanced p next e) (e ∷ M) M f (advanced-number p next e M (f .thread) h)) in
     λ i. cond (within b p next [] e) (e ∷ same i) (same i)
 
--- the next event of a source has a counter
-pub counted : {left : List Event} (c : Counts) (e : Event) (rest : List Event) (next : List ℕ) → Sound c left → left ≡ e ∷ rest → length next ≡ 16 → e .thread < length next
-counted c e rest next s came long = let p = sound-first c e rest (subst (Sound c) came s) in omega (arith, p .thread, c .limits .1, long)
-
 -- a turn of the sampler, which hands out the event or leaves it out
-pub turn : {whole left : List Event} (b p : ℕ) (next : List ℕ) (b′ p′ : ℕ) (next′ : List ℕ) (e : Event) (rest : List Event) → e .thread < length next → sampledFrom b p next left ≡ whole → left ≡ e ∷ rest → b′ ≡ b → p′ ≡ p → next′ ≡ advanced p next e → (t : Bool) → t ≡ within b p next [] e → whole ≡ cond t (e ∷ sampledFrom b′ p′ next′ rest) (sampledFrom b′ p′ next′ rest)
+pub turn : {whole left : List Event} (b p : ℕ) (next : List ℕ) (b′ p′ : ℕ) (next′ : List ℕ) (e : Event) (rest : List Event) → (access e ≡ true → e .thread < length next) → sampledFrom b (p + 1) next left ≡ whole → left ≡ e ∷ rest → b′ ≡ b → p′ ≡ p → next′ ≡ advanced (p + 1) next e → (t : Bool) → t ≡ within b (p + 1) next [] e → whole ≡ cond t (e ∷ sampledFrom b′ (p′ + 1) next′ rest) (sampledFrom b′ (p′ + 1) next′ rest)
 turn b p next b′ p′ next′ e rest h so-far came same-b same-p same-n t lets =
-    sym so-far ∙ ap (sampledFrom b p next) came ∙ sampled-more b p next e rest h
-    ∙ (λ i. cond (sym lets i) (e ∷ sampledFrom (sym same-b i) (sym same-p i) (sym same-n i) rest) (sampledFrom (sym same-b i) (sym same-p i) (sym same-n i) rest))
+    sym so-far ∙ ap (sampledFrom b (p + 1) next) came ∙ sampled-more b (p + 1) next e rest h
+    ∙ (λ i. cond (sym lets i) (e ∷ sampledFrom (sym same-b i) (sym same-p i + 1) (sym same-n i) rest) (sampledFrom (sym same-b i) (sym same-p i + 1) (sym same-n i) rest))
 
 zeros : (n t : ℕ) → _≡_ {A = ℕ} (getD (replicate n 0) t 0) 0
 zeros zero t = refl

@@ -1,10 +1,8 @@
 // Lets through accesses to picked variables, and every event that is no access.
 ghost use mathlib.Core.Path.{_≡_};
-ghost use mathlib.Core.Bool.{true, not};
+ghost use mathlib.Core.Bool.{true};
 ghost use mathlib.Core.List.{[]};
 ghost use Prim.Native.Nat.{_<_};
-ghost use lib.Dec.{eqb};
-ghost use lib.ListN.{getD};
 ghost use Rattle.std.specs.Vec.{made};
 ghost use Rattle.event.specs.Thins.{access};
 ghost use Rattle.event.proofs.Sieving.{stopped, sieved-sound};
@@ -68,7 +66,7 @@ pub impl<S: Source> Source for Picker<S> as PickerSource {
 
     ghost rest = { λ s. picked (s .picks .bytes) (S·Source .rest (s .below)) };
 
-    ghost sound = { λ s. sieved-sound (S·Source .counts (s .below)) (λ _ e. passes (s .picks .bytes) e) (λ _ e. stopped e (not (eqb (getD (s .picks .bytes) (e .number) 0) 0))) [] (S·Source .rest (s .below)) (S·Source .sound (s .below)) };
+    ghost sound = { λ s. sieved-sound (S·Source .counts (s .below)) (λ _ e. passes (s .picks .bytes) e) (λ _ e. stopped e _) [] (S·Source .rest (s .below)) (S·Source .sound (s .below)) };
 
     fn counts(&self) -> Counts {
         self.below.counts()

@@ -2,42 +2,39 @@
 ghost use mathlib.Core.Path.{_≡_};
 ghost use mathlib.Core.Bool.{true};
 ghost use mathlib.Core.List.{[]};
-ghost use Prim.Native.Nat.{_≤_, _<_, _%_};
-ghost use lib.Dec.{ltb};
-ghost use lib.ListN.{length, getD, replicate};
+ghost use Prim.Native.Nat.{_+_, _<_};
+ghost use lib.ListN.{length, replicate};
 ghost use Rattle.std.specs.Vec.{made};
 ghost use Rattle.event.specs.Thins.{access};
 ghost use Rattle.event.proofs.Sieving.{stopped, sieved-sound};
 ghost use Rattle.source.specs.Answered.{answered};
-ghost use Rattle.source.specs.Sampled.{samplingBy, number, within, sampledFrom, sampled, advanced, Accesses-are-numbered-by-thread};
+ghost use Rattle.source.specs.Sampled.{samplingBy, within, sampledFrom, sampled, advanced, Accesses-are-numbered-by-thread};
 use crate::filter::Filter;
 use crate::source::Source;
 use event::CallerFault;
 use event::Counts;
 use event::Event;
 
-// For each thread the number of its next access, taken down by the period.
+// A burst, the last number of a period, and for each thread the number of its next access, taken down by the period.
 #[derive(Clone, Copy)]
 pub struct Counters {
     burst: u16,
-    period: u16,
+    last: u16,
     next: [u16; 16],
-    ghost sizes: { (1 ≤ burst) × (burst ≤ period) },
-    ghost long: { length next ≡ 16 },
 }
 
 impl Counters {
     // Every thread's numbers begin at 0.
     pub fn new(burst: u32, period: u32) -> Result<Counters, CallerFault>
         ensures answer { λ r. ⌜ answered r ≡ samplingBy burst period ⌝ }
-        ensures fresh { λ r. ⌜ made r (λ c. (c .burst ≡ burst) × (c .period ≡ period) × (c .next ≡ replicate 16 0)) ⌝ }
+        ensures fresh { λ r. ⌜ made r (λ c. (c .burst ≡ burst) × (c .last + 1 ≡ period) × (c .next ≡ replicate 16 0)) ⌝ }
     {
         if burst < 1 || burst > period || period > 65_535 {
             return Err(CallerFault::Sampling);
         }
         Ok(Counters {
             burst: burst as u16,
-            period: period as u16,
+            last: (period - 1) as u16,
             next: [0; 16],
         })
     }
@@ -45,17 +42,19 @@ impl Counters {
     // Numbers the event if it is an access.
     fn let_through(&mut self, e: Event) -> bool
         requires { ⌜ e .thread < 16 ⌝ }
-        ensures lets { λ r. ⌜ r ≡ within (now (self .entry) .burst) (now (self .entry) .period) (now (self .entry) .next) [] e ⌝ }
-        ensures next { λ _. ⌜ now (self .exit) .next ≡ advanced (now (self .entry) .period) (now (self .entry) .next) e ⌝ }
-        ensures sizes { λ _. ⌜ (now (self .exit) .burst ≡ now (self .entry) .burst) × (now (self .exit) .period ≡ now (self .entry) .period) ⌝ }
+        ensures lets { λ r. ⌜ r ≡ within (now (self .entry) .burst) (now (self .entry) .last + 1) (now (self .entry) .next) [] e ⌝ }
+        ensures next { λ _. ⌜ now (self .exit) .next ≡ advanced (now (self .entry) .last + 1) (now (self .entry) .next) e ⌝ }
+        ensures sizes { λ _. ⌜ (now (self .exit) .burst ≡ now (self .entry) .burst) × (now (self .exit) .last ≡ now (self .entry) .last) ⌝ }
+        ensures counted { λ _. ⌜ (access e ≡ true → e .thread < length (now (self .entry) .next)) ⌝ }
     {
         if !e.is_access() {
             return true;
         }
         let thread = usize::from(e.thread);
-        let number = self.next[thread];
-        self.next[thread] = ((u32::from(number) + 1) % u32::from(self.period)) as u16;
-        number % self.period < self.burst
+        let period = u32::from(self.last) + 1;
+        let number = u32::from(self.next[thread]);
+        self.next[thread] = ((number + 1) % period) as u16;
+        number % period < u32::from(self.burst)
     }
 }
 
@@ -70,7 +69,7 @@ impl<S: Source + Drop> Sampler<S> {
     pub fn new(below: S, burst: u32, period: u32) -> Result<Sampler<S>, CallerFault>
         ensures answer { λ r. ⌜ answered r ≡ samplingBy burst period ⌝ }
         ensures below { λ r. ⌜ made r (λ p. p .below ≡ below) ⌝ }
-        ensures list { λ r. ⌜ made r (λ p. sampledFrom (p .counters .burst) (p .counters .period) (p .counters .next) (S·Source .rest (p .below)) ≡ sampled burst period (S·Source .rest below)) ⌝ }
+        ensures list { λ r. ⌜ made r (λ p. sampledFrom (p .counters .burst) (p .counters .last + 1) (p .counters .next) (S·Source .rest (p .below)) ≡ sampled burst period (S·Source .rest below)) ⌝ }
     {
         let counters = Counters::new(burst, period)?;
         Ok(Sampler { below, counters })
@@ -80,9 +79,9 @@ impl<S: Source + Drop> Sampler<S> {
 pub impl<S: Source> Source for Sampler<S> as SamplerSource {
     ghost counts = { λ s. S·Source .counts (s .below) };
 
-    ghost rest = { λ s. sampledFrom (s .counters .burst) (s .counters .period) (s .counters .next) (S·Source .rest (s .below)) };
+    ghost rest = { λ s. sampledFrom (s .counters .burst) (s .counters .last + 1) (s .counters .next) (S·Source .rest (s .below)) };
 
-    ghost sound = { λ s. sieved-sound (S·Source .counts (s .below)) (within (s .counters .burst) (s .counters .period) (s .counters .next)) (λ past e. stopped e (ltb (number (s .counters .next) past (e .thread) % s .counters .period) (s .counters .burst))) [] (S·Source .rest (s .below)) (S·Source .sound (s .below)) };
+    ghost sound = { λ s. sieved-sound (S·Source .counts (s .below)) (within (s .counters .burst) (s .counters .last + 1) (s .counters .next)) (λ _ e. stopped e _) [] (S·Source .rest (s .below)) (S·Source .sound (s .below)) };
 
     fn counts(&self) -> Counts {
         self.below.counts()
