@@ -1,5 +1,5 @@
 -- An offered event is taken exactly if the list with it is sound and there is room for it.
-use mathlib.Core.Path.{_≡_, refl, ap, _∙_}
+use mathlib.Core.Path.{_≡_, refl, sym, ap, _∙_}
 use mathlib.Core.Bool.{Bool, true, false, cond, _&&_}
 use mathlib.Core.List.{List, [], _∷_, _++_}
 use Prim.Native.Nat.{ℕ, _≤_, _<_}
@@ -9,6 +9,7 @@ use lib.ListN.{length}
 use Rattle.std.specs.Orderings.{Decides}
 use Rattle.std.specs.Results.{isOk}
 use Rattle.std.specs.Vec.{Every}
+use Rattle.std.specs.declared.result.Result.{Result}
 use Rattle.std.specs.declared.result.Result.the-variants.{Ok, Err}
 use Rattle.std.proofs.shelf.Elements.{all-push}
 use Rattle.std.proofs.shelf.Tests.{false≢true, ltb-true, leb-true, lt-ltb, le-leb, and-parts, and-from}
@@ -94,5 +95,7 @@ module _ (c : Counts) (capacity : ℕ) (L : List Event) (e : Event) where
       let b = and-from _ _ (rising-last L e (s .rising)) (le-leb (e .place) 999999 (p .place)) in
       λ i. cond (placed-in-range c e p i) (cond (b i) (cond (lt-ltb (length L) capacity h i) (Ok tt) (Err (Full capacity))) (Err (Place (e .place)))) (Err (Range (e .place)))
 
-  pub offered-exactly : Sound c L → Decides (isOk (offered c capacity L e)) (Sound c (L ++ e ∷ []) × (length L < capacity))
-  offered-exactly s = (λ h. (offered-sound s h, offered-room h), λ h. ap isOk (sound-offered (h .0) (h .1)))
+  pub offered-exactly : {r : Result (Unit {0}) CallerFault} → r ≡ offered c capacity L e → Sound c L → Decides (isOk r) (Sound c (L ++ e ∷ []) × (length L < capacity))
+  offered-exactly a s =
+      let took = ap isOk a in
+      (λ h. (offered-sound s (sym took ∙ h), offered-room (sym took ∙ h)), λ h. took ∙ ap isOk (sound-offered (h .0) (h .1)))

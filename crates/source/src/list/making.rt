@@ -5,6 +5,7 @@ ghost use mathlib.Core.List.{[], _∷_, _++_};
 ghost use Prim.Native.Nat.{_<_};
 ghost use lib.ListN.{length, set};
 ghost use denote.Ref.{name};
+ghost use Rattle.std.specs.Orderings.{Decides};
 ghost use Rattle.std.specs.Results.{isOk};
 ghost use Rattle.std.specs.Runs.{nth};
 ghost use Rattle.event.specs.Offers.{aboveLast, offered};
@@ -24,6 +25,7 @@ impl<'a> EventList<'a> {
         ensures counts { λ r. ⌜ r .counts ≡ counts ⌝ }
         ensures events { λ r. ⌜ listed r ≡ [] ⌝ }
         ensures entries { λ r. ⌜ entries r ≡ now (table .entry) ⌝ }
+        ensures lender { λ r. ⌜ name (r .table) ≡ name (table .entry) ⌝ }
     {
         EventList {
             counts,
@@ -61,8 +63,10 @@ impl<'a> EventList<'a> {
     }
 
     // Appends the event, unless it is refused: then nothing changes.
+    // It is taken exactly if the list with it is sound and there is room.
     pub fn push(&mut self, e: Event) -> Result<(), CallerFault>
         ensures answer { λ r. ⌜ r ≡ offered (now (self .entry) .counts) (capacity (now (self .entry))) (listed (now (self .entry))) e ⌝ }
+        ensures exactly { λ r. ⌜ Decides (isOk r) (Sound (now (self .entry) .counts) (listed (now (self .entry)) ++ e ∷ []) × (length (listed (now (self .entry))) < capacity (now (self .entry)))) ⌝ }
         ensures events { λ r. ⌜ listed (now (self .exit)) ≡ cond (isOk r) (listed (now (self .entry)) ++ e ∷ []) (listed (now (self .entry))) ⌝ }
         ensures entries { λ r. ⌜ entries (now (self .exit)) ≡ cond (isOk r) (set (entries (now (self .entry))) (length (listed (now (self .entry)))) e) (entries (now (self .entry))) ⌝ }
         ensures counts { λ _. ⌜ now (self .exit) .counts ≡ now (self .entry) .counts ⌝ }
