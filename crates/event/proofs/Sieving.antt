@@ -57,3 +57,9 @@ sieved-like t u past past′ L h = sieved-alike (λ _. Unit {0}) t u past past�
     every : (N : List Event) → Every (λ _. Unit {0}) N
     every [] = tt
     every (e ∷ N) = (tt, every N)
+
+-- The first event is let through or not, and what follows is sieved by a test that agrees with the old one after it.
+pub sieved-turn : {whole left : List Event} (t u : List Event → Event → Bool) (e : Event) (rest : List Event) → ((M : List Event) (f : Event) → t (e ∷ M) f ≡ u M f) → sieved t [] left ≡ whole → left ≡ e ∷ rest → (b : Bool) → b ≡ t [] e → whole ≡ cond b (e ∷ sieved u [] rest) (sieved u [] rest)
+sieved-turn t u e rest h so-far came b lets =
+    let same = sieved-like t u (e ∷ []) [] rest h in
+    sym so-far ∙ ap (sieved t []) came ∙ (λ i. cond (sym lets i) (e ∷ same i) (same i))

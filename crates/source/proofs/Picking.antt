@@ -1,7 +1,7 @@
--- A picker's own bytes, and what it lets through, event by event.
+-- A picker's own bytes, and what they let through.
 use mathlib.Core.Path.{_≡_, refl, sym, ap, subst, _∙_}
 use mathlib.Core.Bool.{Bool, true, false, not, cond}
-use mathlib.Core.List.{List, [], _∷_, _++_}
+use mathlib.Core.List.{List, [], _++_}
 use Prim.Native.Nat.{ℕ, _-_, _≤_, _<_}
 use native.Mathlib.Omega.{arith}
 use lib.Dec.{eqb, leb}
@@ -19,18 +19,23 @@ use Rattle.event.specs.declared.letter.Letter.the-variants.{Read, Write, Acquir
 use Rattle.event.specs.declared.record.Event.{Event}
 use Rattle.event.specs.Ranges.{limit}
 use Rattle.event.specs.Thins.{Placed, Sound, accesses, access}
-use Rattle.event.proofs.Sieving.{sieved-alike, sieved-like}
-use Rattle.source.specs.Picked.{bytesFor, ownBytes, passes, picked}
+use Rattle.event.proofs.Sieving.{sieved-alike}
+use Rattle.source.specs.declared.picker.Picks.{Picks}
+use Rattle.source.specs.Picked.{ownBytes, passes, picked, picksFor}
 
-pub enough : (v : ℕ) (bytes : List ℕ) → v ≤ length bytes → Ok tt ≡ bytesFor v bytes
-enough v bytes h = sym (cond-true (leb v (length bytes)) (Ok tt) (Err (Table v)) (le-leb v (length bytes) h))
-
-pub enough-from : (v : ℕ) (bytes : List ℕ) → Ok tt ≡ bytesFor v bytes → v ≤ length bytes
-enough-from v bytes h = leb-true v (length bytes) (go (leb v (length bytes)) h)
+-- where the bytes are enough, the own copy has them
+pub picked-enough : (v : ℕ) (bytes : List ℕ) (p : Picks) → Ok p ≡ picksFor v bytes → (v ≤ length bytes) × (p .bytes ≡ ownBytes v bytes)
+picked-enough v bytes p h = go (leb v (length bytes)) refl h
   where
-    go : (b : Bool) → _≡_ {A = Result (Unit {0}) CallerFault} (Ok tt) (cond b (Ok tt) (Err (Table v))) → b ≡ true
-    go true p = refl
-    go false p = absurd (false≢true (sym (ap isOk p)))
+    go : (b : Bool) → leb v (length bytes) ≡ b → _≡_ {A = Result Picks CallerFault} (Ok p) (cond b (Ok (record { bytes = ownBytes v bytes })) (Err (Table v))) → (v ≤ length bytes) × (p .bytes ≡ ownBytes v bytes)
+    go true t q =
+        let s : p ≡ record { bytes = ownBytes v bytes } = cc in
+        (leb-true v (length bytes) t, ap (λ (k : Picks). k .bytes) s)
+    go false t q = absurd (false≢true (sym (ap isOk q)))
+
+pub enough : (v : ℕ) (bytes : List ℕ) (p : Picks) → v ≤ length bytes → p .bytes ≡ ownBytes v bytes → Ok p ≡ picksFor v bytes
+enough v bytes p h s =
+    (λ i. Ok (record { bytes = s i })) ∙ sym (cond-true (leb v (length bytes)) (Ok (record { bytes = ownBytes v bytes })) (Err (Table v)) (le-leb v (length bytes) h))
 
 -- a copy into the front of 256 zeros
 pub own-copy : (v w : ℕ) (bytes copy : List ℕ) → w ≡ v → copy ≡ take (w - 0) bytes → copy ++ drop (w - 0) (replicate 256 0) ≡ ownBytes v bytes
@@ -71,14 +76,3 @@ picked-own c v own bytes L s l o sound = sieved-alike (Placed c) (λ _ e. passes
         go : (b : Bool) → access e ≡ b → cond b (not (eqb (getD own (e .number) 0) 0)) true ≡ cond b (not (eqb (getD bytes (e .number) 0) 0)) true
         go true h = ap (λ n. not (eqb n 0)) (byte (e .number) (omega (arith, access-number c e p h, s)))
         go false h = refl
-
--- the bytes decide alone, so what came before does not matter
-picked-more : (bytes : List ℕ) (e : Event) (L : List Event) → picked bytes (e ∷ L) ≡ cond (passes bytes e) (e ∷ picked bytes L) (picked bytes L)
-picked-more bytes e L =
-    let same = sieved-like (λ _ f. passes bytes f) (λ _ f. passes bytes f) (e ∷ []) [] L (λ M f. refl) in
-    λ i. cond (passes bytes e) (e ∷ same i) (same i)
-
--- a turn that hands out an event, and one that leaves it out
-module _ {whole left : List Event} (bytes : List ℕ) (e : Event) (rest : List Event) (so-far : picked bytes left ≡ whole) (came : left ≡ e ∷ rest) where
-  pub turn : (b : Bool) → b ≡ passes bytes e → whole ≡ cond b (e ∷ picked bytes rest) (picked bytes rest)
-  turn b h = sym so-far ∙ ap (picked bytes) came ∙ picked-more bytes e rest ∙ ap (λ t. cond t (e ∷ picked bytes rest) (picked bytes rest)) (sym h)

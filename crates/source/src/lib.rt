@@ -5,3 +5,11 @@ pub mod list;
 pub mod picker;
 pub mod sampler;
 pub mod source;
+
+pub use filter::Filter;
+pub use list::EventList;
+pub use list::ListEvents;
+pub use picker::Picker;
+pub use sampler::Sampler;
+pub use source::Measured;
+pub use source::Source;

@@ -3,11 +3,11 @@ ghost use mathlib.Core.Path.{_≡_};
 ghost use mathlib.Core.Bool.{true};
 ghost use mathlib.Core.List.{[]};
 ghost use Prim.Native.Nat.{_<_};
+ghost use Rattle.std.specs.Results.{mapped};
 ghost use Rattle.std.specs.Vec.{made};
 ghost use Rattle.event.specs.Thins.{access};
 ghost use Rattle.event.proofs.Sieving.{stopped, sieved-sound};
-ghost use Rattle.source.specs.Answered.{answered};
-ghost use Rattle.source.specs.Picked.{bytesFor, ownBytes, passes, picked};
+ghost use Rattle.source.specs.Picked.{picksFor, passes, picked};
 use crate::filter::Filter;
 use crate::source::Source;
 use event::CallerFault;
@@ -23,8 +23,7 @@ pub struct Picks {
 impl Picks {
     // A copy of the first bytes, one for each variable.
     pub fn new(counts: Counts, bytes: &[u8]) -> Result<Picks, CallerFault>
-        ensures answer { λ r. ⌜ answered r ≡ bytesFor (counts .variables) (now (bytes .entry)) ⌝ }
-        ensures copy { λ r. ⌜ made r (λ p. p .bytes ≡ ownBytes (counts .variables) (now (bytes .entry))) ⌝ }
+        ensures { λ r. ⌜ r ≡ picksFor (counts .variables) (now (bytes .entry)) ⌝ }
     {
         let variables = counts.variables();
         if bytes.len() < variables {
@@ -52,7 +51,7 @@ pub struct Picker<S> {
 impl<S: Source + Drop> Picker<S> {
     // Keeps a copy of the bytes, one for each variable of the source below. A source that is not to be lost with a refusal is lent.
     pub fn new(below: S, bytes: &[u8]) -> Result<Picker<S>, CallerFault>
-        ensures answer { λ r. ⌜ answered r ≡ bytesFor (S·Source .counts below .variables) (now (bytes .entry)) ⌝ }
+        ensures answer { λ r. ⌜ mapped (λ p. p .picks) (λ f. f) r ≡ picksFor (S·Source .counts below .variables) (now (bytes .entry)) ⌝ }
         ensures below { λ r. ⌜ made r (λ p. p .below ≡ below) ⌝ }
         ensures list { λ r. ⌜ made r (λ p. picked (p .picks .bytes) (S·Source .rest (p .below)) ≡ picked (now (bytes .entry)) (S·Source .rest below)) ⌝ }
     {

@@ -2,13 +2,13 @@
 ghost use mathlib.Core.Path.{_≡_};
 ghost use mathlib.Core.Bool.{true};
 ghost use mathlib.Core.List.{[]};
-ghost use Prim.Native.Nat.{_+_, _<_};
-ghost use lib.ListN.{length, replicate};
+ghost use Prim.Native.Nat.{_<_};
+ghost use lib.ListN.{length};
+ghost use Rattle.std.specs.Results.{mapped};
 ghost use Rattle.std.specs.Vec.{made};
 ghost use Rattle.event.specs.Thins.{access};
 ghost use Rattle.event.proofs.Sieving.{stopped, sieved-sound};
-ghost use Rattle.source.specs.Answered.{answered};
-ghost use Rattle.source.specs.Sampled.{samplingBy, within, sampledFrom, sampled, advanced, Accesses-are-numbered-by-thread};
+ghost use Rattle.source.specs.Sampled.{Accesses-are-numbered-by-thread, countersFor, counted, lets, sampled, sampledBy};
 use crate::filter::Filter;
 use crate::source::Source;
 use event::CallerFault;
@@ -26,8 +26,7 @@ pub struct Counters {
 impl Counters {
     // Every thread's numbers begin at 0.
     pub fn new(burst: u32, period: u32) -> Result<Counters, CallerFault>
-        ensures answer { λ r. ⌜ answered r ≡ samplingBy burst period ⌝ }
-        ensures fresh { λ r. ⌜ made r (λ c. (c .burst ≡ burst) × (c .last + 1 ≡ period) × (c .next ≡ replicate 16 0)) ⌝ }
+        ensures { λ r. ⌜ r ≡ countersFor burst period ⌝ }
     {
         if burst < 1 || burst > period || period > 65_535 {
             return Err(CallerFault::Sampling);
@@ -42,10 +41,9 @@ impl Counters {
     // Numbers the event if it is an access.
     fn let_through(&mut self, e: Event) -> bool
         requires { ⌜ e .thread < 16 ⌝ }
-        ensures lets { λ r. ⌜ r ≡ within (now (self .entry) .burst) (now (self .entry) .last + 1) (now (self .entry) .next) [] e ⌝ }
-        ensures next { λ _. ⌜ now (self .exit) .next ≡ advanced (now (self .entry) .last + 1) (now (self .entry) .next) e ⌝ }
-        ensures sizes { λ _. ⌜ (now (self .exit) .burst ≡ now (self .entry) .burst) × (now (self .exit) .last ≡ now (self .entry) .last) ⌝ }
-        ensures counted { λ _. ⌜ (access e ≡ true → e .thread < length (now (self .entry) .next)) ⌝ }
+        ensures lets { λ r. ⌜ r ≡ lets (now (self .entry)) [] e ⌝ }
+        ensures after { λ _. ⌜ now (self .exit) ≡ counted (now (self .entry)) e ⌝ }
+        ensures has { λ _. ⌜ (access e ≡ true → e .thread < length (now (self .entry) .next)) ⌝ }
     {
         if !e.is_access() {
             return true;
@@ -67,9 +65,9 @@ pub struct Sampler<S> {
 impl<S: Source + Drop> Sampler<S> {
     // Numbers the accesses that the source below hands out. A source that is not to be lost with a refusal is lent.
     pub fn new(below: S, burst: u32, period: u32) -> Result<Sampler<S>, CallerFault>
-        ensures answer { λ r. ⌜ answered r ≡ samplingBy burst period ⌝ }
+        ensures answer { λ r. ⌜ mapped (λ p. p .counters) (λ f. f) r ≡ countersFor burst period ⌝ }
         ensures below { λ r. ⌜ made r (λ p. p .below ≡ below) ⌝ }
-        ensures list { λ r. ⌜ made r (λ p. sampledFrom (p .counters .burst) (p .counters .last + 1) (p .counters .next) (S·Source .rest (p .below)) ≡ sampled burst period (S·Source .rest below)) ⌝ }
+        ensures list { λ r. ⌜ made r (λ p. sampledBy (p .counters) (S·Source .rest (p .below)) ≡ sampled burst period (S·Source .rest below)) ⌝ }
     {
         let counters = Counters::new(burst, period)?;
         Ok(Sampler { below, counters })
@@ -79,9 +77,9 @@ impl<S: Source + Drop> Sampler<S> {
 pub impl<S: Source> Source for Sampler<S> as SamplerSource {
     ghost counts = { λ s. S·Source .counts (s .below) };
 
-    ghost rest = { λ s. sampledFrom (s .counters .burst) (s .counters .last + 1) (s .counters .next) (S·Source .rest (s .below)) };
+    ghost rest = { λ s. sampledBy (s .counters) (S·Source .rest (s .below)) };
 
-    ghost sound = { λ s. sieved-sound (S·Source .counts (s .below)) (within (s .counters .burst) (s .counters .last + 1) (s .counters .next)) (λ _ e. stopped e _) [] (S·Source .rest (s .below)) (S·Source .sound (s .below)) };
+    ghost sound = { λ s. sieved-sound (S·Source .counts (s .below)) (lets (s .counters)) (λ _ e. stopped e _) [] (S·Source .rest (s .below)) (S·Source .sound (s .below)) };
 
     fn counts(&self) -> Counts {
         self.below.counts()

@@ -5,7 +5,6 @@ use Rattle.source.proofs.picker.Picks.new.Needs as need
 pub returns : need.returns
 returns c =
     let v = c .args .counts .variables in
-    record {
-      answer = enough v (c .args .bytes .now) (omega (arith, c .if-bytes-variables .left, c .variables-variables .ensures));
-      copy = own-copy v (c .variables-variables .result) (c .args .bytes .now) (c .copy-from-slice .last .self) (c .variables-variables .ensures) (c .copy-from-slice .ensures .after);
-    }
+    let bytes = c .args .bytes .now in
+    enough v bytes _ (omega (arith, c .if-bytes-variables .left, c .variables-variables .ensures))
+    (own-copy v (c .variables-variables .result) bytes (c .copy-from-slice .last .self) (c .variables-variables .ensures) (c .copy-from-slice .ensures .after))
