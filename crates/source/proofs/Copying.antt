@@ -1,10 +1,10 @@
 -- A list that takes a source's events one by one.
 use mathlib.Core.Path.{_≡_, refl, sym, ap, subst, _∙_}
 use mathlib.Core.List.{List, [], _∷_, _++_}
-use Prim.Native.Nat.{ℕ, _+_, _≤_, _<_}
+use Prim.Native.Nat.{_+_, _≤_, _<_}
 use native.Mathlib.Omega.{arith}
 use lib.ListN.{length, drop, set, length-append, length-drop}
-use Rattle.std.proofs.shelf.Lists.{append-assoc, append-nil, drop-more, set-at, length-push}
+use Rattle.std.proofs.shelf.Lists.{append-assoc, drop-more, set-at, length-push}
 use Rattle.event.specs.declared.counts.Counts.{Counts}
 use Rattle.event.specs.declared.record.Event.{Event}
 use Rattle.event.specs.Thins.{Sound}

@@ -58,7 +58,7 @@ access-limit c Downgrade h = refl
 access-limit c Stop h = refl
 
 -- an access is to a declared variable
-pub access-number : (c : Counts) (e : Event) → Placed c e → access e ≡ true → e .number < c .variables
+access-number : (c : Counts) (e : Event) → Placed c e → access e ≡ true → e .number < c .variables
 access-number c e p h = subst (λ (n : ℕ). e .number < n) (access-limit c (e .letter) h) (p .number)
 
 -- An access is to a declared variable, and for such a variable the picker's own byte is the caller's.
