@@ -3,6 +3,7 @@ pub mod filter;
 pub mod lent;
 pub mod list;
 pub mod picker;
+pub mod refusal;
 pub mod sampler;
 pub mod source;
 
@@ -10,6 +11,7 @@ pub use filter::Filter;
 pub use list::EventList;
 pub use list::ListEvents;
 pub use picker::Picker;
+pub use refusal::Refusal;
 pub use sampler::Sampler;
 pub use source::Measured;
 pub use source::Source;

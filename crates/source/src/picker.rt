@@ -3,12 +3,13 @@ ghost use mathlib.Core.Path.{_≡_};
 ghost use mathlib.Core.Bool.{true};
 ghost use mathlib.Core.List.{[]};
 ghost use Prim.Native.Nat.{_<_};
-ghost use Rattle.std.specs.Results.{mapped};
+ghost use Rattle.std.specs.Results.{Cases, mapped};
 ghost use Rattle.std.specs.Vec.{made};
 ghost use Rattle.event.specs.Thins.{access};
 ghost use Rattle.event.proofs.Sieving.{stopped, sieved-sound};
 ghost use Rattle.source.specs.Picked.{picksFor, passes, picked};
 use crate::filter::Filter;
+use crate::refusal::Refusal;
 use crate::source::Source;
 use event::CallerFault;
 use event::Counts;
@@ -48,15 +49,17 @@ pub struct Picker<S> {
     picks: Picks,
 }
 
-impl<S: Source + Drop> Picker<S> {
-    // Keeps a copy of the bytes, one for each variable of the source below. A source that is not to be lost with a refusal is lent.
-    pub fn new(below: S, bytes: &[u8]) -> Result<Picker<S>, CallerFault>
-        ensures answer { λ r. ⌜ mapped (λ p. p .picks) (λ f. f) r ≡ picksFor (S·Source .counts below .variables) (now (bytes .entry)) ⌝ }
-        ensures below { λ r. ⌜ made r (λ p. p .below ≡ below) ⌝ }
+impl<S: Source> Picker<S> {
+    // Keeps a copy of the bytes, one for each variable of the source below.
+    pub fn new(below: S, bytes: &[u8]) -> Result<Picker<S>, Refusal<S>>
+        ensures answer { λ r. ⌜ mapped (λ p. p .picks) (λ x. x .fault) r ≡ picksFor (S·Source .counts below .variables) (now (bytes .entry)) ⌝ }
+        ensures below { λ r. ⌜ Cases r (λ p. p .below ≡ below) (λ x. x .below ≡ below) ⌝ }
         ensures list { λ r. ⌜ made r (λ p. picked (p .picks .bytes) (S·Source .rest (p .below)) ≡ picked (now (bytes .entry)) (S·Source .rest below)) ⌝ }
     {
-        let picks = Picks::new(below.counts(), bytes)?;
-        Ok(Picker { below, picks })
+        match Picks::new(below.counts(), bytes) {
+            Ok(picks) => Ok(Picker { below, picks }),
+            Err(fault) => Err(Refusal { below, fault }),
+        }
     }
 }
 

@@ -4,12 +4,13 @@ ghost use mathlib.Core.Bool.{true};
 ghost use mathlib.Core.List.{[]};
 ghost use Prim.Native.Nat.{_<_};
 ghost use lib.ListN.{length};
-ghost use Rattle.std.specs.Results.{mapped};
+ghost use Rattle.std.specs.Results.{Cases, mapped};
 ghost use Rattle.std.specs.Vec.{made};
 ghost use Rattle.event.specs.Thins.{access};
 ghost use Rattle.event.proofs.Sieving.{stopped, sieved-sound};
 ghost use Rattle.source.specs.Sampled.{Accesses-are-numbered-by-thread, countersFor, counted, lets, sampled, sampledBy};
 use crate::filter::Filter;
+use crate::refusal::Refusal;
 use crate::source::Source;
 use event::CallerFault;
 use event::Counts;
@@ -62,15 +63,17 @@ pub struct Sampler<S> {
     counters: Counters,
 }
 
-impl<S: Source + Drop> Sampler<S> {
-    // Numbers the accesses that the source below hands out. A source that is not to be lost with a refusal is lent.
-    pub fn new(below: S, burst: u32, period: u32) -> Result<Sampler<S>, CallerFault>
-        ensures answer { λ r. ⌜ mapped (λ p. p .counters) (λ f. f) r ≡ countersFor burst period ⌝ }
-        ensures below { λ r. ⌜ made r (λ p. p .below ≡ below) ⌝ }
+impl<S: Source> Sampler<S> {
+    // Numbers the accesses that the source below hands out.
+    pub fn new(below: S, burst: u32, period: u32) -> Result<Sampler<S>, Refusal<S>>
+        ensures answer { λ r. ⌜ mapped (λ p. p .counters) (λ x. x .fault) r ≡ countersFor burst period ⌝ }
+        ensures below { λ r. ⌜ Cases r (λ p. p .below ≡ below) (λ x. x .below ≡ below) ⌝ }
         ensures list { λ r. ⌜ made r (λ p. sampledBy (p .counters) (S·Source .rest (p .below)) ≡ sampled burst period (S·Source .rest below)) ⌝ }
     {
-        let counters = Counters::new(burst, period)?;
-        Ok(Sampler { below, counters })
+        match Counters::new(burst, period) {
+            Ok(counters) => Ok(Sampler { below, counters }),
+            Err(fault) => Err(Refusal { below, fault }),
+        }
     }
 }
 

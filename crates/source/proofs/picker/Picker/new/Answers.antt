@@ -4,14 +4,14 @@ use Rattle.source.specs.Picked.{picksFor}
 use Rattle.source.proofs.Picking.{picked-enough, picked-own}
 use Rattle.source.proofs.picker.Picker.new.Needs as need
 
-pub returns : need.returns
-returns g c =
+pub returns-in-Ok : need.returns-in-Ok
+returns-in-Ok g c =
     let s = g .S·Source in
     let below = c .args .below in
     let v = c .counts .result .variables in
     let bytes = c .args .bytes .now in
-    let picks = c .in-Continue-picks .picks in
-    let made = c .in-Continue-picks .ensures tt in
+    let picks = c .in-Ok .picks in
+    let made = c .in-Ok .ensures tt in
     let own = picked-enough v bytes picks made in
     record {
       answer = made ∙ ap (λ (k : Counts). picksFor (k .variables) bytes) (c .counts .ensures);
