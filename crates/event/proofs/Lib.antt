@@ -1,1 +1,5 @@
+pub mod Offering
 pub mod Same
+pub mod Sieving
+pub mod Sounds
+pub mod Thinning

@@ -4,3 +4,5 @@ pub mod Ranges
 pub mod Order
 pub mod Entries
 pub mod Thins
+pub mod Offers
+pub mod Sieves

@@ -1,0 +1,4 @@
+mod Copying
+mod Fronts
+mod Picking
+mod Sampling

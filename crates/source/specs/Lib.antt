@@ -1,0 +1,5 @@
+pub mod Handed
+pub mod Listed
+pub mod Picked
+pub mod Piles
+pub mod Sampled
