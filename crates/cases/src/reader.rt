@@ -1,12 +1,12 @@
 // Which files the reader accepts, and why it refuses the others.
 use crate::script::file;
 use crate::script::sections;
+use format::fault::OrderFaultDebug;
+use format::kinds::ObjectKindPartialEq;
 use std::alloc::Global;
 use std::test::*;
 use trace::Entry;
 use trace::entries::EntriesIterator;
-use trace::entry::ObjectKindPartialEq;
-use trace::fault::OrderFaultDebug;
 use trace::read;
 
 type Verdict = (u8, u8, usize);
@@ -304,7 +304,7 @@ fn entries(rt: LibcRuntime) -> Result<(), Fail> {
         Some(Entry::Object { kind, name, offset }) => {
             check_eq(offset, 14).note("the semaphore's offset")?;
             check_eq(name.len(), 1)?;
-            check(kind == trace::ObjectKind::Semaphore)?;
+            check(kind == format::ObjectKind::Semaphore)?;
         }
         _ => return Err(Fail::new("no second object")),
     }

@@ -7,7 +7,7 @@ use lib.Dec.{ltb}
 use lib.ListN.{length}
 use Rattle.std.specs.declared.result.Result.the-variants.{Ok}
 use Rattle.std.proofs.shelf.Tests.{le-ltb, cond-false}
-use Rattle.trace.specs.Trace.{Contents, readTrace}
+use Rattle.format.specs.Trace.{Contents, readTrace}
 use Rattle.output.specs.Lines.{countsLine}
 use Rattle.output.specs.Answers.{Said, summed, summary}
 

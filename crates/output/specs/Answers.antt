@@ -9,9 +9,9 @@ use Rattle.std.specs.declared.result.Result.{Result}
 use Rattle.std.specs.declared.result.Result.the-variants.{Ok, Err}
 use Rattle.event.specs.declared.fault.CallerFault.the-variants.{Table}
 use Rattle.event.specs.Faults.{callerFiled}
-use Rattle.trace.specs.declared.fault.OrderFault.{OrderFault}
-use Rattle.trace.specs.Filed.{orderFiled}
-use Rattle.trace.specs.Trace.{Contents, readTrace}
+use Rattle.format.specs.declared.fault.OrderFault.{OrderFault}
+use Rattle.format.specs.Filed.{orderFiled}
+use Rattle.format.specs.Trace.{Contents, readTrace}
 use Rattle.output.specs.declared.answer.Answer.{Answer}
 use Rattle.output.specs.Lines.{refusalLine, countsLine}
 

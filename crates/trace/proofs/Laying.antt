@@ -7,15 +7,15 @@ use lib.ListN.{length, length-append}
 use Rattle.std.specs.Joined.{joined}
 use Rattle.std.specs.declared.result.Result.{Result}
 use Rattle.std.specs.declared.result.Result.the-variants.{Ok, Err}
-use Rattle.trace.specs.declared.fault.SectionFault.{SectionFault}
-use Rattle.trace.specs.declared.entry.SectionKind.{SectionKind}
-use Rattle.trace.specs.declared.fault.SectionFault.the-variants.{Bytes, Count}
-use Rattle.trace.specs.Parse.{mapOk, here, twoFrom}
-use Rattle.trace.specs.Names.{within}
-use Rattle.trace.specs.Items.{Item, itemFrom, itemsFrom, consItem, after, laidNext, laidFrom, sectionBody, sectionFrom}
-use Rattle.trace.specs.Codes.{codeItem, laidOut}
-use Rattle.trace.proofs.Steps.{then-ok, map-ok, ok-ok, ok-lift-then, ok-if}
-use Rattle.trace.proofs.Inverse.{within-from, two-size, item-sound, items-sound}
+use Rattle.format.specs.declared.fault.SectionFault.{SectionFault}
+use Rattle.format.specs.declared.kinds.SectionKind.{SectionKind}
+use Rattle.format.specs.declared.fault.SectionFault.the-variants.{Bytes, Count}
+use Rattle.format.specs.Parse.{mapOk, here, twoFrom}
+use Rattle.format.specs.Names.{within}
+use Rattle.format.specs.Items.{Item, itemFrom, itemsFrom, consItem, after, laidNext, laidFrom, sectionBody, sectionFrom}
+use Rattle.format.specs.Codes.{codeItem, laidOut}
+use Rattle.format.proofs.Steps.{then-ok, map-ok, ok-ok, ok-lift-then, ok-if}
+use Rattle.format.proofs.Inverse.{within-from, two-size, item-sound, items-sound}
 
 laid-items : (p : ℕ) (is : List Item) → map (λ y. y .1) (laidOut p is) ≡ is
 laid-items p [] = refl

@@ -8,16 +8,16 @@ use lib.ListN.{length, length-append}
 use Rattle.std.specs.Joined.{joined}
 use Rattle.std.specs.declared.result.Result.{Result}
 use Rattle.std.specs.declared.result.Result.the-variants.{Ok, Err}
-use Rattle.trace.specs.declared.fault.ByteFault.the-variants.{Magic}
-use Rattle.trace.specs.declared.fault.SectionFault.the-variants.{Bytes}
-use Rattle.trace.specs.declared.entry.SectionKind.{SectionKind}
-use Rattle.trace.specs.declared.entry.SectionKind.the-variants.{Threads, Objects, Variables}
-use Rattle.trace.specs.Parse.{mapOk, here, takeFrom}
-use Rattle.trace.specs.Items.{Item, sectionFrom}
-use Rattle.trace.specs.Codes.{codeItem}
-use Rattle.trace.specs.Layout.{isMagic, magicBody, magicFrom, blockFrom, Layout, laidAs, size, withVariables, withObjects, withThreads, withMagic, layout}
-use Rattle.trace.proofs.Steps.{ok-ok, then-ok, if-ok, ok-then, ok-lift-then, ok-map}
-use Rattle.trace.proofs.Inverse.{take-sound, section-size}
+use Rattle.format.specs.declared.fault.ByteFault.the-variants.{Magic}
+use Rattle.format.specs.declared.fault.SectionFault.the-variants.{Bytes}
+use Rattle.format.specs.declared.kinds.SectionKind.{SectionKind}
+use Rattle.format.specs.declared.kinds.SectionKind.the-variants.{Threads, Objects, Variables}
+use Rattle.format.specs.Parse.{mapOk, here, takeFrom}
+use Rattle.format.specs.Items.{Item, sectionFrom}
+use Rattle.format.specs.Codes.{codeItem}
+use Rattle.format.specs.Layout.{isMagic, magicBody, magicFrom, blockFrom, Layout, laidAs, size, withVariables, withObjects, withThreads, withMagic, layout}
+use Rattle.format.proofs.Steps.{ok-ok, then-ok, if-ok, ok-then, ok-lift-then, ok-map}
+use Rattle.format.proofs.Inverse.{take-sound, section-size}
 
 pub layout-whole : (bs r₀ : List ℕ) (t : ℕ) (ts os vs : List Item) (r₁ r₂ r₃ : List ℕ) (b : ℕ × List ℕ) → t ≡ length bs → Ok r₀ ≡ magicFrom bs → Ok (ts, r₁) ≡ sectionFrom Threads 1 16 t r₀ → Ok (os, r₂) ≡ sectionFrom Objects 0 512 t r₁ → Ok (vs, r₃) ≡ sectionFrom Variables 0 256 t r₂ → Ok b ≡ blockFrom t r₃ → Ok (laidAs ts os vs b) ≡ layout bs
 layout-whole bs r₀ t ts os vs r₁ r₂ r₃ b n m x y z w =

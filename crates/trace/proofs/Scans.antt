@@ -8,18 +8,20 @@ use Rattle.std.specs.declared.result.Result.the-variants.{Ok, Err}
 use Rattle.event.specs.declared.record.Event.{Event}
 use Rattle.event.specs.declared.counts.Counts.{Counts}
 use Rattle.event.specs.Ranges.{nearest}
-use Rattle.trace.specs.declared.entry.ObjectKind.{ObjectKind}
-use Rattle.trace.specs.declared.fault.EventFault.the-variants.{Sections}
-use Rattle.trace.specs.declared.fault.OrderFault.{OrderFault}
-use Rattle.trace.specs.declared.fault.OrderFault.the-variants.{Events}
+use Rattle.format.specs.declared.kinds.ObjectKind.{ObjectKind}
+use Rattle.format.specs.declared.fault.EventFault.the-variants.{Sections}
+use Rattle.format.specs.declared.fault.OrderFault.{OrderFault}
+use Rattle.format.specs.declared.fault.OrderFault.the-variants.{Events}
 use Rattle.trace.specs.declared.trace.Trace.{Trace}
-use Rattle.trace.specs.Parse.{mapOk}
+use Rattle.format.specs.Parse.{mapOk}
 use Rattle.trace.specs.Section.{itemsIn}
-use Rattle.trace.specs.Events.{gotEvents}
-use Rattle.trace.specs.Standings.{Standing, fresh, ruledFrom, kindsOf, kindTable}
-use Rattle.trace.specs.Layout.{Layout, layout, layoutOf, Laid}
-use Rattle.trace.specs.Trace.{contents, contentsOf, countsOf, countsIn, ordered, readTrace}
-use Rattle.trace.proofs.Steps.{ok-lift-then}
+use Rattle.format.specs.Events.{gotEvents}
+use Rattle.format.specs.Standings.{Standing, fresh, ruledFrom, kindsOf, kindTable}
+use Rattle.format.specs.Layout.{Layout, layout}
+use Rattle.trace.specs.Whole.{layoutOf, Laid}
+use Rattle.format.specs.Trace.{contents, countsOf, ordered, readTrace}
+use Rattle.trace.specs.Whole.{contentsOf, countsIn}
+use Rattle.format.proofs.Steps.{ok-lift-then}
 
 -- the counts of the sections are those of their entries
 counts-laid : (t : Trace) → Laid t → countsIn t ≡ countsOf (itemsIn (t .threads)) (itemsIn (t .objects)) (itemsIn (t .variables))

@@ -5,11 +5,11 @@ use Prim.Native.Nat.{ℕ, zero, suc, _+_, _-_, _<_}
 use native.Mathlib.Omega.{arith}
 use Rattle.std.specs.declared.result.Result.{Result}
 use Rattle.std.specs.declared.result.Result.the-variants.{Ok, Err}
-use Rattle.trace.specs.declared.fault.SectionFault.{SectionFault}
-use Rattle.trace.specs.declared.entry.SectionKind.{SectionKind}
-use Rattle.trace.specs.Parse.{mapOk, andThen, here}
+use Rattle.format.specs.declared.fault.SectionFault.{SectionFault}
+use Rattle.format.specs.declared.kinds.SectionKind.{SectionKind}
+use Rattle.format.specs.Parse.{mapOk, andThen, here}
 use lib.ListN.{length}
-use Rattle.trace.specs.Items.{Item, itemFrom, itemsFrom, consItem, after}
+use Rattle.format.specs.Items.{Item, itemFrom, itemsFrom, consItem, after}
 
 after-cons : (i : Item) (r : Result (List Item × List ℕ) SectionFault) → after (mapOk (consItem i) r) ≡ after r
 after-cons i (Ok y) = refl

@@ -6,7 +6,8 @@ use Rattle.std.specs.declared.option.Option.{Option}
 use Rattle.std.specs.declared.option.Option.the-variants.{Some, None}
 use Rattle.trace.specs.declared.entry.Entry.{Entry}
 use Rattle.trace.specs.declared.entries.Entries.{Entries}
-use Rattle.trace.specs.Items.{Item, spotOf, laidFrom}
+use Rattle.format.specs.Items.{Item, laidFrom}
+use Rattle.trace.specs.Spots.{spotOf}
 
 -- what is still to come
 abbrev pub shown : Entries → List (ℕ × Item)

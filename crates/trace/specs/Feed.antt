@@ -6,7 +6,7 @@ use Rattle.std.specs.declared.option.Option.{Option}
 use Rattle.std.specs.declared.option.Option.the-variants.{Some, None}
 use Rattle.event.specs.declared.record.Event.{Event}
 use Rattle.trace.specs.declared.events.Events.{Events}
-use Rattle.trace.specs.Events.{gotEvents}
+use Rattle.format.specs.Events.{gotEvents}
 
 -- what is still to come
 abbrev pub coming : Events → List Event

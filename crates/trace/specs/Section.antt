@@ -3,7 +3,7 @@ use mathlib.Core.List.{List, map}
 use Prim.Native.Nat.{ℕ, max}
 use lib.ListN.{length}
 use Rattle.trace.specs.declared.section.Section.{Section}
-use Rattle.trace.specs.Items.{Item, laidFrom}
+use Rattle.format.specs.Items.{Item, laidFrom}
 
 -- its entries, each with the offset at which it begins
 abbrev pub laidIn : Section → List (ℕ × Item)

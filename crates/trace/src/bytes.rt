@@ -2,8 +2,8 @@
 ghost use mathlib.Core.Path.{_≡_};
 ghost use Prim.Native.Nat.{_+_, _^_, _≤_, _<_, max};
 ghost use lib.ListN.{length};
-ghost use Rattle.trace.specs.Parse.{mapOk, here, byteFrom, takeFrom, twoFrom, fourFrom};
-use crate::fault::ByteFault;
+ghost use Rattle.format.specs.Parse.{mapOk, here, byteFrom, takeFrom, twoFrom, fourFrom};
+use format::fault::ByteFault;
 
 #[derive(Clone, Copy)]
 pub struct Reader<'a> {

@@ -2,14 +2,14 @@
 ghost use mathlib.Core.Path.{_≡_};
 ghost use Rattle.std.specs.Finite.{nth};
 ghost use Rattle.std.specs.Options.{mapped};
-ghost use Rattle.trace.specs.Items.{spotOf};
+ghost use Rattle.trace.specs.Spots.{spotOf};
 ghost use Rattle.trace.specs.Section.{laidIn};
 ghost use Rattle.trace.specs.Entries.{shown, Stepped};
 use crate::bytes::Reader;
 use crate::entry::Entry;
-use crate::entry::SectionKind;
 use crate::entry::next_entry;
 use crate::section::Section;
+use format::kinds::SectionKind;
 
 #[derive(Clone, Copy)]
 pub struct Entries<'a> {

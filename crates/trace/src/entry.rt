@@ -1,25 +1,15 @@
 // An entry of a section. It borrows its name from the file's bytes, and has the offset at which it begins.
 ghost use mathlib.Core.Path.{_≡_};
 ghost use Rattle.std.specs.Vec.{made};
-ghost use Rattle.trace.specs.Parse.{mapOk, here};
-ghost use Rattle.trace.specs.Items.{itemOf, placeOf, itemFrom};
+ghost use Rattle.format.specs.Parse.{mapOk, here};
+ghost use Rattle.format.specs.Items.{itemFrom};
+ghost use Rattle.trace.specs.Spots.{itemOf, placeOf};
 use crate::bytes::Reader;
-use crate::fault::SectionFault;
-use crate::fault::SectionFromByte;
 use crate::names::name as read_name;
-
-#[derive(Clone, Copy, PartialEq, Eq, Debug)]
-pub enum SectionKind {
-    Threads,
-    Objects,
-    Variables,
-}
-
-#[derive(Clone, Copy, PartialEq, Eq, Debug)]
-pub enum ObjectKind {
-    Mutex,
-    Semaphore,
-}
+use format::fault::SectionFault;
+use format::fault::SectionFromByte;
+use format::kinds::ObjectKind;
+use format::kinds::SectionKind;
 
 #[derive(Clone, Copy)]
 pub enum Entry<'a> {

@@ -2,11 +2,11 @@
 ghost use mathlib.Core.Path.{_≡_};
 ghost use Prim.Native.Nat.{_≤_};
 ghost use lib.ListN.{length};
-ghost use Rattle.trace.specs.Events.{letterAt, judged, eventAt};
-use crate::fault::EventFault;
+ghost use Rattle.format.specs.Events.{letterAt, judged, eventAt};
 use event::Counts;
 use event::Event;
 use event::Letter;
+use format::fault::EventFault;
 
 fn letter(b: u8) -> Option<Letter>
     ensures { λ r. ⌜ r ≡ letterAt b ⌝ }

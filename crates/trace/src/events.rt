@@ -2,7 +2,7 @@
 ghost use mathlib.Core.Path.{_≡_};
 ghost use Prim.Native.Nat.{_-_};
 ghost use Rattle.trace.specs.Feed.{coming, Fed};
-ghost use Rattle.trace.specs.Trace.{contentsOf, countsIn};
+ghost use Rattle.trace.specs.Whole.{contentsOf, countsIn};
 ghost use Rattle.trace.specs.Section.{laidIn};
 use crate::event_bytes::event;
 use crate::section::Section;

@@ -3,26 +3,27 @@ ghost use mathlib.Core.Path.{_≡_};
 ghost use Prim.Native.Nat.{_*_, _≤_};
 ghost use lib.ListN.{length};
 ghost use Rattle.std.specs.Vec.{made};
-ghost use Rattle.trace.specs.Parse.{mapOk};
-ghost use Rattle.trace.specs.Items.{itemOf};
+ghost use Rattle.format.specs.Parse.{mapOk};
+ghost use Rattle.trace.specs.Spots.{itemOf};
 ghost use Rattle.trace.specs.Section.{itemsIn};
-ghost use Rattle.trace.specs.Events.{gotEvents};
-ghost use Rattle.trace.specs.Standings.{kindOf, kindsOf, kindTable, ruledFrom, standingOf};
-ghost use Rattle.trace.specs.Layout.{Laid};
-ghost use Rattle.trace.specs.Trace.{readTrace, contentsOf, Counted};
-ghost use Rattle.trace.specs.Exact.{Answers};
+ghost use Rattle.format.specs.Events.{gotEvents};
+ghost use Rattle.format.specs.Standings.{kindOf, kindsOf, kindTable, ruledFrom};
+ghost use Rattle.format.specs.Trace.{readTrace};
+ghost use Rattle.trace.specs.Standing.{standingOf};
+ghost use Rattle.trace.specs.Whole.{contentsOf, Laid, Counted};
+ghost use Rattle.format.specs.Exact.{Answers};
 use crate::entries::EntriesIterator;
 use crate::entry::Entry;
-use crate::entry::ObjectKind;
 use crate::event_bytes::event;
-use crate::fault::OrderFault;
-use crate::fault::OrderFromEvent;
-use crate::fault::OrderFromSection;
 use crate::layout::sections;
 use crate::rules::Rules;
 use crate::section::Section;
 use crate::trace::Block;
 use crate::trace::Trace;
+use format::fault::OrderFault;
+use format::fault::OrderFromEvent;
+use format::fault::OrderFromSection;
+use format::kinds::ObjectKind;
 
 fn kind_of(e: Entry<'_>) -> ObjectKind
     ensures { λ r. ⌜ r ≡ kindOf (itemOf (e .entry)) ⌝ }

@@ -3,16 +3,17 @@ ghost use mathlib.Core.Path.{_≡_};
 ghost use Prim.Native.Nat.{_*_, _≤_};
 ghost use lib.ListN.{length};
 ghost use Rattle.std.specs.Vec.{made};
-ghost use Rattle.trace.specs.Parse.{mapOk};
-ghost use Rattle.trace.specs.Layout.{magicFrom, blockFrom, layout, layoutOf, Laid};
+ghost use Rattle.format.specs.Parse.{mapOk};
+ghost use Rattle.format.specs.Layout.{magicFrom, blockFrom, layout};
+ghost use Rattle.trace.specs.Whole.{layoutOf, Laid};
 use crate::bytes::Reader;
-use crate::entry::SectionKind;
-use crate::fault::ByteFault;
-use crate::fault::SectionFault;
-use crate::fault::SectionFromByte;
 use crate::sections::section;
 use crate::trace::Block;
 use crate::trace::Trace;
+use format::fault::ByteFault;
+use format::fault::SectionFault;
+use format::fault::SectionFromByte;
+use format::kinds::SectionKind;
 
 // The bytes `T` and `C`, and the version 1.
 fn magic(r: &mut Reader<'_>) -> Result<(), ByteFault>

@@ -1,10 +1,9 @@
-// Reads trace files: bytes, sections, events and the rules of threads and mutexes, each layer with its faults.
+// Reads trace files: bytes, sections, events and the rules of threads and mutexes. The faults stand in the crate `format`.
 pub mod bytes;
 pub mod entries;
 pub mod entry;
 pub mod event_bytes;
 pub mod events;
-pub mod fault;
 pub mod file;
 pub mod layout;
 pub mod names;
@@ -15,13 +14,7 @@ pub mod trace;
 
 pub use entries::Entries;
 pub use entry::Entry;
-pub use entry::ObjectKind;
-pub use entry::SectionKind;
 pub use events::Events;
-pub use fault::ByteFault;
-pub use fault::EventFault;
-pub use fault::OrderFault;
-pub use fault::SectionFault;
 pub use file::read;
 pub use section::Section;
 pub use trace::Trace;

@@ -1,11 +1,11 @@
 // Names: a length byte and that many bytes that can be seen.
 ghost use mathlib.Core.Path.{_≡_};
 ghost use lib.ListN.{take};
-ghost use Rattle.trace.specs.Parse.{mapOk};
-ghost use Rattle.trace.specs.Names.{allGood, nameFrom};
+ghost use Rattle.format.specs.Parse.{mapOk};
+ghost use Rattle.format.specs.Names.{allGood, nameFrom};
 use crate::bytes::Reader;
-use crate::fault::SectionFault;
-use crate::fault::SectionFromByte;
+use format::fault::SectionFault;
+use format::fault::SectionFromByte;
 
 fn all_good(s: &[u8]) -> bool
     ensures { λ r. ⌜ r ≡ allGood (now (s .entry)) ⌝ }

@@ -2,19 +2,11 @@
 ghost use mathlib.Core.Path.{_≡_};
 ghost use Prim.Native.Nat.{ℕ};
 ghost use lib.ListN.{length};
-use crate::entry::ObjectKind;
 use event::Counts;
+use format::kinds::ObjectKind;
+use format::kinds::Stage;
 
 pub mod steps;
-
-// How far a thread's life has come.
-#[derive(Clone, Copy, PartialEq, Eq, Debug)]
-pub enum Stage {
-    Unborn,
-    Forked,
-    Running,
-    Ended,
-}
 
 // The kinds of the objects, the stage of each thread and the holder of each mutex.
 #[derive(Clone, Copy)]

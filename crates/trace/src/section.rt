@@ -1,5 +1,5 @@
 // A section of a file that was read: how many entries it has, and the file's bytes from the first entry on.
-use crate::entry::SectionKind;
+use format::kinds::SectionKind;
 
 #[derive(Clone, Copy)]
 pub struct Section<'a> {

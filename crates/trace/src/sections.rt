@@ -2,17 +2,17 @@
 ghost use mathlib.Core.Path.{_≡_};
 ghost use lib.ListN.{length};
 ghost use Rattle.std.specs.Vec.{made};
-ghost use Rattle.trace.specs.Parse.{mapOk, here};
+ghost use Rattle.format.specs.Parse.{mapOk, here};
 ghost use Prim.Native.Nat.{_+_, _≤_};
-ghost use Rattle.trace.specs.Codes.{laidOut};
-ghost use Rattle.trace.specs.Items.{itemsFrom, sectionFrom, after};
+ghost use Rattle.format.specs.Codes.{laidOut};
+ghost use Rattle.format.specs.Items.{itemsFrom, sectionFrom, after};
 ghost use Rattle.trace.specs.Section.{itemsIn, laidIn};
 use crate::bytes::Reader;
-use crate::entry::SectionKind;
 use crate::entry::next_entry;
-use crate::fault::SectionFault;
-use crate::fault::SectionFromByte;
 use crate::section::Section;
+use format::fault::SectionFault;
+use format::fault::SectionFromByte;
+use format::kinds::SectionKind;
 
 fn skip(r: &mut Reader<'_>, kind: SectionKind, count: u16) -> Result<(), SectionFault>
     ensures value { λ x. ⌜ mapOk (λ _. now (r .exit) .rest .now) x ≡ after (itemsFrom kind (now (r .entry) .total) count (now (r .entry) .rest .now)) ⌝ }

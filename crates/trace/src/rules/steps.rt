@@ -3,15 +3,16 @@ ghost use mathlib.Core.Path.{_≡_};
 ghost use mathlib.Core.Bool.{true};
 ghost use Prim.Native.Nat.{_<_};
 ghost use Rattle.event.specs.Ranges.{inRange};
-ghost use Rattle.trace.specs.Parse.{mapOk};
-ghost use Rattle.trace.specs.Standings.{isRunning, isMutex, isFree, isHolder, stageAt, kindAt, holderAt, lives, lived, locks, locked, stepped, standingOf, fresh};
-use crate::entry::ObjectKind;
-use crate::fault::OrderFault;
+ghost use Rattle.format.specs.Parse.{mapOk};
+ghost use Rattle.trace.specs.Standing.{standingOf};
+ghost use Rattle.format.specs.Standings.{isRunning, isMutex, isFree, isHolder, stageAt, kindAt, holderAt, lives, lived, locks, locked, stepped, fresh};
 use crate::rules::Rules;
-use crate::rules::Stage;
 use event::Counts;
 use event::Event;
 use event::Letter;
+use format::fault::OrderFault;
+use format::kinds::ObjectKind;
+use format::kinds::Stage;
 
 impl Rules {
     // Thread 0 runs, the others are unborn, and nobody holds a mutex.

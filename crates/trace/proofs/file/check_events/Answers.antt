@@ -3,8 +3,9 @@ use native.Mathlib.Omega.{arith}
 use borrow.Author.Needs.{needs}
 use Prim.Native.Nat.{_+_, _-_}
 use Rattle.std.specs.declared.result.Result.the-variants.{Ok}
-use Rattle.trace.specs.Standings.{ruledFrom, standingOf}
-use Rattle.trace.proofs.Checks.{verdict, verdict-step, verdict-good, told, got-events, got-length, event-range}
+use Rattle.format.specs.Standings.{ruledFrom}
+use Rattle.trace.specs.Standing.{standingOf}
+use Rattle.format.proofs.Checks.{verdict, verdict-step, verdict-good, told, got-events, got-length, event-range}
 use Rattle.trace.proofs.file.check_events.Needs as need
 
 pub step-requires : need.step-requires

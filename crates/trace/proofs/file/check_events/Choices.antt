@@ -1,8 +1,9 @@
 use mathlib.Core.Path.{_≡_}
 use Prim.Native.Nat.{_-_, _*_}
 use lib.ListN.{length}
-use Rattle.trace.specs.Standings.{ruledFrom, standingOf}
-use Rattle.trace.proofs.Checks.{verdict}
+use Rattle.format.specs.Standings.{ruledFrom}
+use Rattle.trace.specs.Standing.{standingOf}
+use Rattle.format.proofs.Checks.{verdict}
 use Rattle.trace.proofs.file.check_events.Given as given
 
 abbrev pub Inv-loop-place : given.InvT-loop-place

@@ -4,12 +4,12 @@ use borrow.Author.Needs.{needs}
 use Prim.Native.Nat.{_+_, _≤_, max}
 use lib.ListN.{length, length-set}
 use Rattle.std.proofs.shelf.Lists.{nil-from-length}
-use Rattle.trace.specs.Items.{spotOf}
+use Rattle.trace.specs.Spots.{spotOf}
 use Rattle.trace.specs.Entries.{shown}
 use Rattle.trace.specs.Section.{laidIn}
-use Rattle.trace.specs.Standings.{kindTable}
+use Rattle.format.specs.Standings.{kindTable}
 use Rattle.trace.proofs.Laying.{laid-few}
-use Rattle.trace.proofs.Tables.{kindsLaid, written-more, written-none}
+use Rattle.format.proofs.Tables.{kindsLaid, written-more, written-none}
 use Rattle.trace.proofs.file.kinds.Needs as need
 
 pub loop-i-holds : need.loop-i-holds

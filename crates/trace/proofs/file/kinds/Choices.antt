@@ -3,7 +3,7 @@ use mathlib.Core.List.{map}
 use Prim.Native.Nat.{_+_, _≤_}
 use lib.ListN.{length}
 use Rattle.trace.specs.Entries.{shown}
-use Rattle.trace.specs.Standings.{kindsOf, kindTable, written}
+use Rattle.format.specs.Standings.{kindsOf, kindTable, written}
 use Rattle.trace.proofs.file.kinds.Given as given
 
 -- what is still to be written into the table makes it the whole table

@@ -1,5 +1,6 @@
-use Rattle.trace.proofs.Inverse.{all-bytes}
-use Rattle.trace.proofs.Exactness.{answers, all-counted}
+use Rattle.format.proofs.Inverse.{all-bytes}
+use Rattle.format.proofs.Exactness.{answers}
+use Rattle.trace.proofs.Counting.{all-counted}
 use Rattle.trace.proofs.file.read.Needs as need
 
 pub returns : need.returns

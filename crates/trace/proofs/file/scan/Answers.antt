@@ -2,8 +2,8 @@ use mathlib.Core.Path.{_≡_, refl, sym, ap, _∙_}
 use borrow.Author.Needs.{needs}
 use Rattle.std.specs.declared.result.Result.the-variants.{Ok}
 use lib.ListN.{length}
-use Rattle.trace.specs.Events.{gotEvents}
-use Rattle.trace.specs.Standings.{standingOf}
+use Rattle.format.specs.Events.{gotEvents}
+use Rattle.trace.specs.Standing.{standingOf}
 use Rattle.trace.proofs.Scans.{scan-whole}
 use Rattle.trace.proofs.file.scan.Needs as need
 

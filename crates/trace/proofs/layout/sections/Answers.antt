@@ -3,12 +3,12 @@ use native.Mathlib.Omega.{arith}
 use Prim.Native.Nat.{_+_, _≤_}
 use lib.ListN.{length}
 use Rattle.std.specs.declared.result.Result.the-variants.{Ok}
-use Rattle.trace.specs.declared.entry.SectionKind.the-variants.{Threads, Objects, Variables}
-use Rattle.trace.specs.Parse.{here}
-use Rattle.trace.specs.Items.{sectionFrom}
+use Rattle.format.specs.declared.kinds.SectionKind.the-variants.{Threads, Objects, Variables}
+use Rattle.format.specs.Parse.{here}
+use Rattle.format.specs.Items.{sectionFrom}
 use Rattle.trace.specs.Section.{itemsIn}
-use Rattle.trace.specs.Codes.{laidOut}
-use Rattle.trace.specs.Layout.{magicFrom, blockFrom, size}
+use Rattle.format.specs.Codes.{laidOut}
+use Rattle.format.specs.Layout.{magicFrom, blockFrom, size}
 use Rattle.trace.proofs.Layouts.{layout-whole, magic-size, next-at}
 use Rattle.trace.proofs.layout.sections.Needs as need
 

@@ -6,7 +6,7 @@ use borrow.Author.Tests.{le-leb}
 use Prim.Native.Nat.{_+_}
 use lib.ListN.{getD, drop}
 use Rattle.std.proofs.shelf.Lists.{at-drop-more, at-drop-all}
-use Rattle.trace.specs.Names.{allGood, within}
+use Rattle.format.specs.Names.{allGood, within}
 use Rattle.trace.proofs.names.all_good.Needs as need
 
 pub returns-then-b-lt33 : need.returns-then-b-lt33

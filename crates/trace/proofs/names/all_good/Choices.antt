@@ -1,6 +1,6 @@
 use mathlib.Core.Path.{_≡_}
 use lib.ListN.{drop}
-use Rattle.trace.specs.Names.{allGood}
+use Rattle.format.specs.Names.{allGood}
 use Rattle.trace.proofs.names.all_good.Given as given
 
 abbrev pub Inv-loop-b : given.InvT-loop-b

@@ -2,8 +2,8 @@ use mathlib.Core.Path.{_≡_, refl, ap, sym, _∙_}
 use native.Mathlib.Omega.{arith}
 use borrow.Author.Needs.{needs}
 use Rattle.std.specs.declared.result.Result.the-variants.{Ok}
-use Rattle.trace.specs.Parse.{twoFrom}
-use Rattle.trace.specs.Items.{itemsFrom, after}
+use Rattle.format.specs.Parse.{twoFrom}
+use Rattle.format.specs.Items.{itemsFrom, after}
 use Rattle.trace.proofs.Laying.{section-read}
 use Rattle.trace.proofs.sections.section.Needs as need
 

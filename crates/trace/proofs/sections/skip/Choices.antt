@@ -1,6 +1,6 @@
 use mathlib.Core.Path.{_≡_}
 use Prim.Native.Nat.{_-_}
-use Rattle.trace.specs.Items.{itemsFrom, after}
+use Rattle.format.specs.Items.{itemsFrom, after}
 use Rattle.trace.proofs.sections.skip.Given as given
 
 abbrev pub Inv-loop-i : given.InvT-loop-i

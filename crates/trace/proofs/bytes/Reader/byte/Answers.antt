@@ -2,7 +2,7 @@ use Prim.Native.Nat.{_≤_}
 use borrow.Author.Needs.{needs}
 use mathlib.Core.Path.{refl, sym, ap}
 use lib.ListN.{length}
-use Rattle.trace.specs.Parse.{byteFrom}
+use Rattle.format.specs.Parse.{byteFrom}
 use Rattle.trace.proofs.Fronts.{front1}
 use Rattle.trace.proofs.bytes.Reader.byte.Needs as need
 

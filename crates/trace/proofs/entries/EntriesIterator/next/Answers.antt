@@ -3,7 +3,8 @@ use mathlib.Core.List.{_∷_}
 use native.Mathlib.Omega.{arith}
 use borrow.Author.Needs.{needs}
 use Prim.Native.Nat.{_-_}
-use Rattle.trace.specs.Items.{itemOf, laidFrom}
+use Rattle.format.specs.Items.{laidFrom}
+use Rattle.trace.specs.Spots.{itemOf}
 use Rattle.trace.proofs.Laying.{laid-more, laid-none}
 use Rattle.trace.proofs.entries.EntriesIterator.next.Needs as need
 

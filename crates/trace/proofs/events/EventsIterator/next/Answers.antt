@@ -3,8 +3,8 @@ use native.Mathlib.Omega.{arith}
 use borrow.Author.Needs.{needs}
 use Prim.Native.Nat.{_+_, _-_}
 use lib.ListN.{drop}
-use Rattle.trace.specs.Events.{gotEvent, gotEvents}
-use Rattle.trace.proofs.Checks.{got-step, got-short}
+use Rattle.format.specs.Events.{gotEvent, gotEvents}
+use Rattle.format.proofs.Checks.{got-step, got-short}
 use Rattle.trace.proofs.events.EventsIterator.next.Needs as need
 
 pub returns-in-Ok : need.returns-in-Ok

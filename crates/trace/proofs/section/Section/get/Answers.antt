@@ -2,7 +2,7 @@ use mathlib.Core.Path.{ap, _∙_}
 use lib.ListN.{length}
 use Rattle.std.specs.Finite.{nth}
 use Rattle.std.proofs.shelf.Roads.{nth-from-ran, road-from-shown}
-use Rattle.trace.specs.Items.{spotOf}
+use Rattle.trace.specs.Spots.{spotOf}
 use Rattle.trace.specs.Entries.{shown, Stepped}
 use Rattle.trace.proofs.section.Section.get.Needs as need
 

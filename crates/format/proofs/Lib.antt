@@ -1,0 +1,17 @@
+pub mod Steps
+pub mod Inverse
+pub mod Checks
+pub mod Accepting
+pub mod EventsInverse
+pub mod Pasts
+pub mod Tables
+pub mod Lives
+pub mod Mutexes
+pub mod Keeping
+pub mod WholeInverse
+pub mod Complete
+pub mod EntryFaults
+pub mod SectionFaults
+pub mod EventFaults
+pub mod FileFaults
+pub mod Exactness

@@ -1,0 +1,13 @@
+pub mod Filed
+pub mod Parse
+pub mod Names
+pub mod Items
+pub mod Codes
+pub mod Events
+pub mod Rules
+pub mod Standings
+pub mod Layout
+pub mod Trace
+pub mod Encode
+pub mod Refusals
+pub mod Exact
