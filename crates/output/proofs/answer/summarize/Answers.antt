@@ -1,7 +1,7 @@
 use mathlib.Core.Path.{sym, ap, _∙_}
 use native.Mathlib.Omega.{arith}
 use Rattle.event.specs.declared.counts.Counts.{Counts}
-use Rattle.format.specs.Trace.{contentsOf}
+use Rattle.trace.specs.Whole.{contentsOf}
 use Rattle.output.proofs.Summing.{accepted}
 use Rattle.output.proofs.answer.summarize.Needs as need
 
