@@ -1,0 +1,17 @@
+pub mod Tests
+pub mod Letters
+pub mod Objects
+pub mod Chaining
+pub mod Front
+pub mod Places
+pub mod Newest
+pub mod Thinning
+pub mod Finding
+pub mod Moments
+pub mod Bounds
+pub mod Behind
+pub mod Stamping
+pub mod Pushes
+pub mod Marking
+pub mod Entries
+pub mod Telling
