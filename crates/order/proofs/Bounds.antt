@@ -8,6 +8,7 @@ use native.Mathlib.Omega.{arith}
 use lib.Dec.{eqb, ltb}
 use lib.ListN.{length, getD, take, drop, length-take, length-drop}
 use lib.Seq.{getD-take, getD-drop}
+use Rattle.std.proofs.shelf.Tests.{and-from, and-parts}
 use borrow.Author.Tests.{eqb-true, eq-eqb, ltb-true, lt-ltb}
 use Rattle.std.specs.declared.option.Option.{Option}
 use Rattle.std.specs.declared.option.Option.the-variants.{Some, None}
@@ -20,17 +21,10 @@ use Rattle.order.specs.Regions.{Region, any-object, acquire-before, release-af
 use Rattle.order.proofs.Places.{blank, at-in, in-at, index-once}
 
 and-intro : (a b c : Bool) → a ≡ true → b ≡ true → c ≡ true → (a && (b && c)) ≡ true
-and-intro true b c p q r = go b c q r
-  where
-    go : (b c : Bool) → b ≡ true → c ≡ true → (b && c) ≡ true
-    go true c q r = r
-    go false c q r = q
-and-intro false b c p q r = p
+and-intro a b c p q r = and-from a (b && c) p (and-from b c q r)
 
 and-elim : (a b c : Bool) → (a && (b && c)) ≡ true → (a ≡ true) × (b ≡ true) × (c ≡ true)
-and-elim true true c h = (refl, refl, h)
-and-elim true false c h = absurd (false≢true h)
-and-elim false b c h = absurd (false≢true h)
+and-elim a b c h = let w = and-parts a (b && c) h in let v = and-parts b c (w .1) in (w .0, v .0, v .1)
 
 any-some : (a : Option Object) → any-object a ≡ true → (o : Object) × (a ≡ Some o)
 any-some None h = absurd (false≢true h)

@@ -16,6 +16,7 @@ use Rattle.order.specs.Stamps.{Laws, Deed, events, Bound}
 use Rattle.order.specs.Marks.{Clock, tick, ticks, larger, zeros, entry, reaches}
 use Rattle.event.specs.Entries.{IsEntry, nothing, highest}
 use Rattle.order.proofs.Chaining.{chain-first}
+use Rattle.order.proofs.Joins.{laws-of-bounds}
 use Rattle.order.proofs.Finding.{latest, both}
 use Rattle.order.proofs.Stamping.{stamps-reached}
 use Rattle.order.proofs.Marking.{reaches-iff}
@@ -24,18 +25,15 @@ abbrev Below : Clock → Clock → Type 0
 Below c d = (u : ℕ) → c u ≤ d u
 
 clock-laws : Laws Below larger zeros
-clock-laws = record {
-  reflexive = λ x u. omega arith;
-  transitive = λ x y z a b u. omega (arith, a u, b u);
-  antisymmetric = λ x y a b. fun-ext (λ u. omega (arith, a u, b u));
-  left = λ x y u. omega arith;
-  right = λ x y u. omega arith;
-  tight = λ x y z a b u. omega (arith, a u, b u);
-  associative = λ x y z. fun-ext (λ u. omega arith);
-  commutative = λ x y. fun-ext (λ u. omega arith);
-  idempotent = λ x. fun-ext (λ u. omega arith);
-  bottom = λ x u. omega arith;
-}
+clock-laws =
+    laws-of-bounds
+    (λ x u. omega arith)
+    (λ x y z a b u. omega (arith, a u, b u))
+    (λ x y a b. fun-ext (λ u. omega (arith, a u, b u)))
+    (λ x y u. omega arith)
+    (λ x y u. omega arith)
+    (λ x y z a b u. omega (arith, a u, b u))
+    (λ x u. omega arith)
 
 ticks-events : (L : List Event) → events (ticks L) ≡ L
 ticks-events [] = refl
@@ -49,10 +47,8 @@ tick-of : (L : List Event) (y : Deed Clock) → List·Memᴰ y (ticks L) → y �
 tick-of [] y m = absurd (List·Memᴰ·not-nil m)
 tick-of (x ∷ L) y m = ⊎-elim (λ s. s ∙ ap tick (ap (λ (d : Deed Clock). d .event) (sym s))) (λ n. tick-of L y n) (List·Memᴰ·cases-cons m)
 
--- A number that bounds the places of u's events that reach t from above, and no more than that, is the entry.
-module _ (L : List Event) (r : Rising L) (t u m : ℕ)
-    (upper : (e : Event) → e .thread ≡ u → Reaches L e t → suc (e .place) ≤ m)
-    (least : (n : ℕ) → ((e : Event) → e .thread ≡ u → Reaches L e t → suc (e .place) ≤ n) → m ≤ n) where
+-- which events of u reach t is decided
+module _ (L : List Event) (r : Rising L) (t u : ℕ) where
   Known : Event → Type 0
   Known e = (e .thread ≡ u) × (reaches L (e .place) t ≡ true)
 
@@ -73,21 +69,30 @@ module _ (L : List Event) (r : Rising L) (t u m : ℕ)
       go (no h) (inl s) = inl (s .0, List·Memᴰ·tail (s .1), s .2)
       go (no h) (inr f) = inr (λ e i k. ⊎-elim (λ s. h (subst Known s k)) (λ n. f e n k) (List·Memᴰ·cases-cons i))
 
+  pub some-reaches : ((e : Event) × (e .thread ≡ u) × Reaches L e t) ⊎ ((e : Event) → e .thread ≡ u → Reaches L e t → ⊥)
+  unfolding Known
+  some-reaches = go (some-known L)
+    where
+      go : (((e : Event) × (e ∈ L) × Known e) ⊎ ((e : Event) → e ∈ L → Known e → ⊥)) → ((e : Event) × (e .thread ≡ u) × Reaches L e t) ⊎ ((e : Event) → e .thread ≡ u → Reaches L e t → ⊥)
+      go (inl s) = inl (s .0, s .2 .0, reaches-iff L r (s .0) (s .1) t .0 (s .2 .1))
+      go (inr f) = inr (λ e w c. f e (chain-first (c .chain)) (knows e w c))
+
+-- A number that bounds the places of u's events that reach t from above, and no more than that, is the entry.
+module _ (L : List Event) (r : Rising L) (t u m : ℕ)
+    (upper : (e : Event) → e .thread ≡ u → Reaches L e t → suc (e .place) ≤ m)
+    (least : (n : ℕ) → ((e : Event) → e .thread ≡ u → Reaches L e t → suc (e .place) ≤ n) → m ≤ n) where
   pub is-entry : IsEntry L t u m
   unfolding Known
-  is-entry = go (some-known L)
+  is-entry = go (some-reaches L r t u)
     where
-      go : (((e : Event) × (e ∈ L) × Known e) ⊎ ((e : Event) → e ∈ L → Known e → ⊥)) → IsEntry L t u m
-      go (inr f) =
-          let none = λ (e : Event) (s : e .thread ≡ u) (c : Reaches L e t). f e (chain-first (c .chain)) (knows e s c) in
-          let z = least 0 (λ e s c. absurd (none e s c)) in
-          nothing (omega arith) none
+      go : (((e : Event) × (e .thread ≡ u) × Reaches L e t) ⊎ ((e : Event) → e .thread ≡ u → Reaches L e t → ⊥)) → IsEntry L t u m
+      go (inr none) = let z = least 0 (λ e s c. absurd (none e s c)) in nothing (omega arith) none
       go (inl s) =
-          let l = latest Known known? L (s .0) (s .2) in
+          let l = latest (Known L r t u) (known? L r t u) L (s .0) (knows L r t u (s .0) (s .1) (s .2)) in
           let k = l .0 in
-          let i : k ∈ L = ⊎-elim (λ e. Memᴰ·cast e (s .1)) (λ h. h .0) (l .1 .from) in
+          let i : k ∈ L = ⊎-elim (λ e. Memᴰ·cast e (chain-first (s .2 .chain))) (λ h. h .0) (l .1 .from) in
           let c = reaches-iff L r k i t .0 (l .1 .held .1) in
-          let top = λ (f : Event) (w : f .thread ≡ u) (d : Reaches L f t). l .1 .last f (chain-first (d .chain)) (knows f w d) in
+          let top = λ (f : Event) (w : f .thread ≡ u) (d : Reaches L f t). l .1 .last f (chain-first (d .chain)) (knows L r t u f w d) in
           let up = upper k (l .1 .held .0) c in
           let low = least (suc (k .place)) (λ f w d. omega (arith, top f w d)) in
           highest k (l .1 .held .0) c (omega arith) top

@@ -1,4 +1,3 @@
-pub mod Tests
 pub mod Letters
 pub mod Objects
 pub mod Chaining
@@ -10,6 +9,7 @@ pub mod Finding
 pub mod Moments
 pub mod Bounds
 pub mod Behind
+pub mod Joins
 pub mod Stamping
 pub mod Pushes
 pub mod Marking

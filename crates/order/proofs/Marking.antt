@@ -19,7 +19,7 @@ use Rattle.order.proofs.Chaining.{chain-first, chain-last}
 use Rattle.order.proofs.Front.{same-place, rising-front, place-once}
 use Rattle.order.proofs.Newest.{Comes, itself, by-step, newest-in, old-or-new, chain-on, chain-old, step-to-new, comes}
 use Rattle.order.proofs.Objects.{same-object-true, same-object-eq}
-use Rattle.order.proofs.Tests.{or-cases, or-left, or-right}
+use Rattle.std.proofs.shelf.Tests.{or-cases, or-left, or-right}
 
 passes-some : (a b : Option Object) → passes a b ≡ true → (o : Object) × (a ≡ Some o) × (b ≡ Some o)
 passes-some None b h = absurd (clash h)

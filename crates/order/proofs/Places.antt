@@ -2,9 +2,10 @@
 use mathlib.Core.Path.{_≡_, refl, sym, ap}
 use mathlib.Core.Logic.{⊎-elim}
 use mathlib.Core.List.{List, [], _∷_, _++_, List·Memᴰ·head, List·Memᴰ·tail, List·Memᴰ·not-nil, List·Memᴰ·cases-cons}
-use mathlib.Core.Bool.{Bool, true, false, _&&_, false≢true}
+use mathlib.Core.Bool.{true}
 use Prim.Native.Nat.{ℕ, zero, suc, _<_, _≤_}
 use lib.Dec.{leb}
+use Rattle.std.proofs.shelf.Tests.{and-parts}
 use borrow.Author.Tests.{leb-true}
 use Rattle.order.specs.Marks.{rises-from}
 use native.Mathlib.Omega.{arith}
@@ -54,10 +55,6 @@ pub rising-push : (L : List Event) (g : Event) → Rising L → ((e : Event) →
 rising-push [] g r h = (tt, tt)
 rising-push (x ∷ L) g r h = (after-push x L g (r .0) (h x (List·Memᴰ·head refl)), rising-push L g (r .1) (λ e m. h e (List·Memᴰ·tail m)))
 
-two-tests : (a b : Bool) → (a && b) ≡ true → (a ≡ true) × (b ≡ true)
-two-tests true b h = (refl, h)
-two-tests false b h = absurd (false≢true h)
-
 after-of : (x : Event) (L : List Event) → ((e : Event) → e ∈ L → x .place < e .place) → After x L
 after-of x [] h = tt
 after-of x (y ∷ L) h = (h y (List·Memᴰ·head refl), after-of x L (λ e m. h e (List·Memᴰ·tail m)))
@@ -65,7 +62,7 @@ after-of x (y ∷ L) h = (h y (List·Memᴰ·head refl), after-of x L (λ e m. h
 pub rises-sound : (p : ℕ) (L : List Event) → rises-from p L ≡ true → Rising L × ((e : Event) → e ∈ L → p ≤ e .place)
 rises-sound p [] h = (tt, λ e m. absurd (List·Memᴰ·not-nil m))
 rises-sound p (x ∷ L) h =
-    let w = two-tests (leb p (x .place)) (rises-from (suc (x .place)) L) h in
+    let w = and-parts (leb p (x .place)) (rises-from (suc (x .place)) L) h in
     let low : p ≤ x .place = leb-true _ _ (w .0) in
     let k = rises-sound (suc (x .place)) L (w .1) in
     ((after-of x L (k .1), k .0), λ e m. ⊎-elim (λ s. omega (arith, ap (λ (v : Event). v .place) s)) (λ n. omega (arith, k .1 e n)) (List·Memᴰ·cases-cons m))

@@ -208,6 +208,13 @@ module _ {S : Type 0} {below : S → S → Type 0} {merged : S → S → S} {lea
     object = λ o u. record { upper = λ x m c. absurd (List·Memᴰ·not-nil m); least = λ b k. subst (λ v. below v b) (sym (os o u)) (laws .bottom b) };
   }
 
+  -- stamps that are the same where they are in use
+  pub sums-same : {Thread : ℕ → Type 0} {Used : Object → Type 0} {xs : List (Deed S)} {s s′ : State S} → ((t : ℕ) → Thread t → s .threads t ≡ s′ .threads t) → ((o : Object) → Used o → s .objects o ≡ s′ .objects o) → Sums below Thread Used xs s → Sums below Thread Used xs s′
+  sums-same {Thread} {Used} {xs} ts os h = record {
+    thread = λ t u. subst (λ v. Bound below xs (λ e. Behind (events xs) e t) v) (ts t u) (h .thread t u);
+    object = λ o u. subst (λ v. Bound below xs (λ e. Leaves (events xs) e o) v) (os o u) (h .object o u);
+  }
+
   -- one deed more, where the event's thread and the object that it acquires are in use
   pub sums-push : {Thread : ℕ → Type 0} {Used : Object → Type 0} (xs : List (Deed S)) (s : State S) (x : Deed S) → Rising (events xs ++ x .event ∷ []) → Thread (x .event .thread) → ((o : Object) → Acquires (x .event) o → Used o) → Sums below Thread Used xs s → Sums below Thread Used (xs ++ x ∷ []) (step merged s x)
   sums-push {Thread} {Used} xs s x r own got h =
