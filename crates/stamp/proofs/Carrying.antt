@@ -5,7 +5,7 @@ use mathlib.Core.List.{List, [], _∷_, _++_}
 use Prim.Native.Nat.{ℕ, zero, suc, _<_, _≤_, min}
 use native.Mathlib.Omega.{arith}
 use lib.Dec.{eqb, ltb}
-use lib.ListN.{length, getD, set, drop, replicate, length-replicate}
+use lib.ListN.{length, getD, set, drop, replicate, length-replicate, length-append, length-drop}
 use lib.Seq.{getD-set-same, getD-set-other}
 use borrow.Author.Tests.{eqb-true, eqb-false, lt-ltb}
 use Rattle.std.proofs.shelf.Lists.{getD-default, getD-append-left, getD-replicate}
@@ -115,3 +115,6 @@ module _ {S : Type 0} {below : S → S → Type 0} {join : S → S → S} {least
 pub stamp-parts : {S : Type 0} (join : S → S → S) (least : S) (c : Counts) (ts os : List S) (e : Event) (v before got new : S) (t : ℕ) (a : Option ℕ) → t ≡ e .thread → before ≡ getD ts t least → a ≡ mapped (slot c) (acquired e) → got ≡ joined-in join os a before → new ≡ join got v → new ≡ stamp-after join least c ts os e v
 stamp-parts join least c ts os e v before got new t a te be ae ge ne =
     ne ∙ ap (λ s. join s v) (ge ∙ ap₂ (joined-in join os) ae (be ∙ ap (λ k. getD ts k least) te))
+
+pub length-cleared : {S : Type 0} (n : ℕ) (x : S) (xs : List S) → length (cleared n x xs) ≡ length xs
+length-cleared n x xs = omega (arith, length-append (replicate (min n (length xs)) x) (drop n xs), length-replicate (min n (length xs)) x, length-drop n xs)

@@ -1,0 +1,39 @@
+-- What each keeper may have been told.
+use mathlib.Core.Path.{_≡_}
+use mathlib.Core.List.{List}
+use Prim.Native.Nat.{ℕ, _≤_}
+use lib.ListN.{length, take}
+use Rattle.std.specs.declared.option.Option.{Option}
+use Rattle.event.specs.declared.counts.Counts.{Counts}
+use Rattle.event.specs.declared.record.Event.{Event}
+use Rattle.event.specs.Ranges.{nearest}
+use Rattle.stamp.specs.declared.clock.Clock.{Clock}
+use Rattle.stamp.specs.Clocks.{NoLater, zeros, ticks}
+use Rattle.stamp.specs.Slots.{slots}
+use Rattle.stamp.specs.Tables.{Means}
+use Rattle.keeper.specs.declared.plain.PlainCounts.{PlainCounts}
+use Rattle.keeper.specs.Telling.{Fits, last-place}
+
+-- the counts that a keeper holds
+abbrev pub counts-of : PlainCounts → Counts
+counts-of d = nearest (d .threads) (d .objects) (d .variables)
+
+-- how many events the clocks can be told
+abbrev pub many : ℕ
+many = 1000000
+
+-- clocks that were told es: the tables mean its events, each with its tick
+pub record Clocked (c : Counts) (ts os : List Clock) (n : ℕ) (last : Option ℕ) (es : List Event) : Type 0 where
+  pub fits : Fits c many es
+  pub count : n ≡ length es
+  pub latest : last ≡ last-place es
+  pub threads-fit : c .threads ≤ length ts
+  pub objects-fit : slots c ≤ length os
+  pub stamps : Means NoLater zeros c (ticks es) ts os
+
+-- a lent list whose first n events are es
+pub record Walked (c : Counts) (events : List Event) (n : ℕ) (last : Option ℕ) (es : List Event) : Type 0 where
+  pub fits : Fits c (length events) es
+  pub count : n ≡ length es
+  pub latest : last ≡ last-place es
+  pub front : es ≡ take n events
