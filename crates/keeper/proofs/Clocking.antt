@@ -14,9 +14,7 @@ use Rattle.event.specs.declared.record.Event.{Event}
 use Rattle.event.specs.Entries.{IsEntry}
 use Rattle.event.specs.Objects.{released}
 use Rattle.event.specs.Thins.{Rising}
-use Rattle.order.specs.Marks.{entry}
-use Rattle.order.specs.Stamps.{events}
-use Rattle.order.proofs.Entries.{entry-right, entry-once}
+use Rattle.order.specs.Stamps.{events, Behind, Bound}
 use Rattle.stamp.specs.declared.clock.Clock.{Clock}
 use Rattle.stamp.specs.Clocks.{NoLater, later, zeros, tick, ticks, Tells-entry}
 use Rattle.stamp.specs.Slots.{slot, slots, starting}
@@ -25,7 +23,6 @@ use Rattle.stamp.proofs.Carrying.{adds, means-none, length-cleared}
 use Rattle.stamp.proofs.Clocks.{clock-laws}
 use Rattle.stamp.proofs.Slotting.{started-fits}
 use Rattle.keeper.specs.Kept.{many, Clocked}
-use Rattle.keeper.specs.Telling.{Fits}
 use Rattle.keeper.proofs.Telling.{Admitted, fits-push, last-push, admitted-told}
 
 ticks-push : (L : List Event) (e : Event) → ticks (L ++ e ∷ []) ≡ ticks L ++ record { event = e; gives = tick e } ∷ []
@@ -84,8 +81,5 @@ clocked-told c d ts os ts′ os′ n m last e es same count p q a h =
 pub clocked-entry : (c : Counts) (ts os : List Clock) (n : ℕ) (last : Option ℕ) (es : List Event) (t u m : ℕ) (x : Clock) → Clocked c ts os n last es → t < c .threads → u < c .threads → x ≡ getD ts t zeros → Tells-entry x u m → IsEntry es t u m
 clocked-entry c ts os n last es t u m x h lt lu same tells =
     tells c es t (h .fits .sound) lu
-    (subst (λ y. Rattle.order.specs.Stamps.Bound NoLater (ticks es) (λ e. Rattle.order.specs.Stamps.Behind es e t) y) (sym same)
-    (subst (λ L. Rattle.order.specs.Stamps.Bound NoLater (ticks es) (λ e. Rattle.order.specs.Stamps.Behind L e t) (getD ts t zeros)) (ticks-events es) (h .stamps .thread t lt)))
-
-pub entry-computed : (c : Counts) (capacity : ℕ) (es : List Event) (t u m : ℕ) → Fits c capacity es → IsEntry es t u m → m ≡ entry es t u
-entry-computed c capacity es t u m fit h = entry-once h (entry-right es (fit .sound .rising) t u)
+    (subst (λ y. Bound NoLater (ticks es) (λ e. Behind es e t) y) (sym same)
+    (subst (λ L. Bound NoLater (ticks es) (λ e. Behind L e t) (getD ts t zeros)) (ticks-events es) (h .stamps .thread t lt)))

@@ -19,10 +19,12 @@ use Rattle.event.specs.declared.counts.Counts.{Counts}
 use Rattle.event.specs.declared.fault.CallerFault.{CallerFault}
 use Rattle.event.specs.declared.fault.CallerFault.the-variants.{Range, Place, Full, Thread}
 use Rattle.event.specs.declared.record.Event.{Event}
+use Rattle.event.specs.Entries.{IsEntry}
 use Rattle.event.specs.Order.{_∈_}
 use Rattle.event.specs.Ranges.{inRange}
 use Rattle.event.specs.Thins.{Rising, Placed}
 use Rattle.order.specs.Marks.{entry}
+use Rattle.order.proofs.Entries.{entry-right, entry-once}
 use Rattle.order.proofs.Front.{same-place}
 use Rattle.order.proofs.Places.{rising-push}
 use Rattle.stamp.proofs.Slotting.{in-range}
@@ -100,3 +102,7 @@ none-undeclared c t u h = go (ltb t (c .threads)) refl (ltb u (c .threads)) refl
 
 pub asked : (c : Counts) (es : List Event) (t u m : ℕ) → None ≡ undeclared c t u → m ≡ entry es t u → Ok m ≡ asking c es t u
 asked c es t u m p q = ap₂ unless p q
+
+-- the entry is the one that is computed
+pub entry-computed : (c : Counts) (capacity : ℕ) (es : List Event) (t u m : ℕ) → Fits c capacity es → IsEntry es t u m → m ≡ entry es t u
+entry-computed c capacity es t u m fit h = entry-once h (entry-right es (fit .sound .rising) t u)

@@ -1,8 +1,9 @@
 -- A walk backwards over a list of events: the threads and objects that it has met.
+use mathlib.Core.Path.{_≡_}
 use mathlib.Core.Bool.{Bool, true, false, _||_}
 use mathlib.Core.List.{List}
 use Prim.Native.Nat.{ℕ, _<_}
-use lib.ListN.{getD, set}
+use lib.ListN.{getD, set, replicate}
 use Rattle.std.specs.Options.{mapped}
 use Rattle.std.specs.declared.option.Option.{Option}
 use Rattle.std.specs.declared.option.Option.the-variants.{Some, None}
@@ -28,3 +29,7 @@ leads c threads objects e = getD threads (e .thread) false || flagged objects (m
 -- n is the entry of t for u
 abbrev pub Walks-to : Counts → List Event → ℕ → ℕ → ℕ → Type 0
 Walks-to c es t u n = Sound c es → t < c .threads → u < c .threads → IsEntry es t u n
+
+-- the same, from flags that are all down
+abbrev pub Walks-from : Counts → List Event → List Bool → List Bool → ℕ → ℕ → ℕ → Type 0
+Walks-from c es threads objects t u n = threads ≡ replicate 16 false → objects ≡ replicate 544 false → Walks-to c es t u n

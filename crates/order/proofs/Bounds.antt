@@ -18,7 +18,7 @@ use Rattle.event.specs.Objects.{released, acquired}
 use Rattle.event.specs.Order.{_∈_}
 use Rattle.event.specs.Thins.{Rising}
 use Rattle.order.specs.Regions.{Region, any-object, acquire-before, release-after, opens-from, closes-from, opens, closes}
-use Rattle.order.proofs.Places.{blank, at-in, in-at, index-once}
+use Rattle.order.proofs.Places.{blank, at-in, in-at, index-once, index-drop}
 
 and-intro : (a b c : Bool) → a ≡ true → b ≡ true → c ≡ true → (a && (b && c)) ≡ true
 and-intro a b c p q r = and-from a (b && c) p (and-from b c q r)
@@ -78,13 +78,6 @@ module _ (L : List Event) (up : Rising L) (k : ℕ) (le : k ≤ length L) where
       let same = index-once L up (h .0) j blank (omega (arith, h .1, length-take k L)) lj (sym (getD-take k L (h .0) blank lt) ∙ h .2) in
       omega arith
 
-  back-in : (j : ℕ) → j < length L → k ≤ j → getD L j blank ∈ drop k L
-  back-in j lj ge =
-      let i : ℕ = j - k in
-      let here : i < length (drop k L) = omega (arith, length-drop k L) in
-      let sum : k + i ≡ j = omega arith in
-      Memᴰ·cast (sym (getD-drop k L i blank ∙ ap (λ n. getD L n blank) sum)) (at-in (drop k L) i blank here)
-
   back-at : (j : ℕ) → j < length L → getD L j blank ∈ drop k L → k ≤ j
   back-at j lj m =
       let h = in-at (drop k L) blank m in
@@ -103,7 +96,7 @@ region-iff L up p k le = (
         let i = in-at L blank m in
         let test = and-intro (eqb (r .thread) (p .thread)) (any-object (released r)) (ltb (p .place) (r .place)) (eq-eqb _ _ s) (ap any-object t) (lt-ltb _ _ lt) in
         let by = closes-by p 0 (i .0) L (i .1) (subst (λ v. release-after v p ≡ true) (sym (i .2)) test) in
-        Memᴰ·cast (sym (i .2)) (back-in L up k le (i .0) (i .1) (omega (arith, h .1)));
+        Memᴰ·cast (sym (i .2)) (index-drop L (i .0) k (i .1) (omega (arith, h .1)));
   },
   λ g. (
     opens-tight p 0 L k (λ j lt t.

@@ -1,5 +1,5 @@
 -- Chains of a list of events.
-use mathlib.Core.Path.{_≡_, refl, ap}
+use mathlib.Core.Path.{_≡_, refl, sym, ap, subst}
 use mathlib.Core.Logic.{_⊎_, inl, inr, ⊎-elim}
 use mathlib.Core.List.{List}
 use Prim.Native.Nat.{ℕ, _<_}
@@ -47,3 +47,12 @@ chain-join b (more c m lt k) = more (chain-join b c) m lt k
 pub chain-rises : {L : List Event} {e f : Event} → Chain L e f → (e ≡ f) ⊎ (e .place < f .place)
 chain-rises (start m) = inl refl
 chain-rises {L} {e} (more {f} {g} c m lt k) = inr (⊎-elim (λ s. omega (arith, ap (λ (v : Event). v .place) s)) (λ h. omega arith) (chain-rises c))
+
+-- a chain is of no step, or has a first one
+pub chain-uncons : {L : List Event} {e g : Event} → Chain L e g → (e ≡ g) ⊎ ((f : Event) × (f ∈ L) × (e .place < f .place) × Linked e f × Chain L f g)
+chain-uncons (start m) = inl refl
+chain-uncons {L} {e} (more {f} {g} c m lt k) =
+    inr (⊎-elim
+    (λ s. (g, m, omega (arith, ap (λ (v : Event). v .place) s), subst (λ v. Linked v g) (sym s) k, start m))
+    (λ h. (h .0, h .1, h .2, h .3, more (h .4) m lt k))
+    (chain-uncons c))

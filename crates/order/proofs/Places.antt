@@ -1,16 +1,18 @@
 -- Events by index and by membership.
-use mathlib.Core.Path.{_≡_, refl, sym, ap}
-use mathlib.Core.Logic.{⊎-elim}
-use mathlib.Core.List.{List, [], _∷_, _++_, List·Memᴰ·head, List·Memᴰ·tail, List·Memᴰ·not-nil, List·Memᴰ·cases-cons}
+use mathlib.Core.Path.{_≡_, refl, sym, ap, subst, _∙_}
+use mathlib.Core.Logic.{_⊎_, inl, inr, ⊎-elim}
+use mathlib.Core.List.{List, [], _∷_, _++_, List·Memᴰ·head, List·Memᴰ·tail, List·Memᴰ·not-nil, List·Memᴰ·cases-cons, Memᴰ·cast, Memᴰ·append-right}
 use mathlib.Core.Bool.{true}
-use Prim.Native.Nat.{ℕ, zero, suc, _<_, _≤_}
+use Prim.Native.Nat.{ℕ, zero, suc, _+_, _-_, _<_, _≤_}
 use lib.Dec.{leb}
 use Rattle.std.proofs.shelf.Tests.{and-parts}
 use borrow.Author.Tests.{leb-true}
 use Rattle.order.specs.Marks.{rises-from}
 use native.Mathlib.Omega.{arith}
 use native.Mathlib.Decide.{decLt}
-use lib.ListN.{length, getD}
+use lib.ListN.{length, getD, take, drop, length-drop}
+use lib.Seq.{getD-drop}
+use Rattle.std.proofs.shelf.Lists.{take-append-drop}
 use Rattle.event.specs.declared.letter.Letter.the-variants.{Read}
 use Rattle.event.specs.declared.record.Event.{Event}
 use Rattle.event.specs.Order.{_∈_}
@@ -45,6 +47,35 @@ index-once L r i j d li lj e =
         | yes lt ↦ absurd (let b = rising-at L r j i d lt li in omega (arith, same-place e))
         | no m ↦ omega arith
       ]
+    ]
+
+-- the events from an index on
+pub index-drop : (L : List Event) (j k : ℕ) → j < length L → k ≤ j → getD L j blank ∈ drop k L
+index-drop L j k lj ge =
+    let i : ℕ = j - k in
+    let here : i < length (drop k L) = omega (arith, length-drop k L) in
+    let sum : k + i ≡ j = omega arith in
+    Memᴰ·cast (sym (getD-drop k L i blank ∙ ap (λ n. getD L n blank) sum)) (at-in (drop k L) i blank here)
+
+pub drop-in : (L : List Event) (k : ℕ) {f : Event} → f ∈ drop k L → f ∈ L
+drop-in L k {f} m = subst (λ M. f ∈ M) (take-append-drop k L) (Memᴰ·append-right (take k L) m)
+
+pub drop-later : (L : List Event) → Rising L → (i : ℕ) → i < length L → {f : Event} → f ∈ drop (suc i) L → getD L i blank .place < f .place
+drop-later L r i li m =
+    let h = in-at (drop (suc i) L) blank m in
+    let lt = rising-at L r i (suc i + h .0) blank (omega arith) (omega (arith, h .1, length-drop (suc i) L)) in
+    omega (arith, lt, same-place (sym (getD-drop (suc i) L (h .0) blank) ∙ h .2))
+
+-- an event is not after the one at i, or stands behind it
+pub later-drop : (L : List Event) → Rising L → (i : ℕ) → i < length L → {f : Event} → f ∈ L → (f .place ≤ getD L i blank .place) ⊎ (f ∈ drop (suc i) L)
+later-drop L r i li {f} m =
+    let h = in-at L blank m in
+    elim (decLt i (h .0)) [
+      | yes lt ↦ inr (Memᴰ·cast (sym (h .2)) (index-drop L (h .0) (suc i) (h .1) (omega arith)))
+      | no n ↦ inl (elim (decLt (h .0) i) [
+        | yes lt ↦ omega (arith, rising-at L r (h .0) i blank lt li, same-place (h .2))
+        | no o ↦ let same : h .0 ≡ i = omega arith in omega (arith, same-place (h .2), ap (λ n. getD L n blank .place) same)
+      ])
     ]
 
 after-push : (x : Event) (L : List Event) (g : Event) → After x L → x .place < g .place → After x (L ++ g ∷ [])

@@ -21,6 +21,7 @@ use Rattle.event.specs.declared.record.Event.{Event}
 use Rattle.event.specs.Objects.{acquired-by, released-by}
 use Rattle.event.specs.Order.{Acquires, Releases}
 use Rattle.event.specs.Ranges.{limit, inRange}
+use Rattle.event.specs.Thins.{Placed}
 use Rattle.stamp.specs.Slots.{slot, slots, Declares, lacking, unless-lacking, starting, handing}
 
 pub slot-once : (c : Counts) (a b : Object) → Declares c a → Declares c b → slot c a ≡ slot c b → a ≡ b
@@ -107,3 +108,10 @@ handed-ok c m n e h r = go (lacking c m n) h
     go : (o : Option ℕ) → Ok tt ≡ unless-lacking o (Ok tt) → Ok tt ≡ unless-lacking o (cond (inRange c e) (Ok tt) (Err (Range (e .place))))
     go None p = sym (cond-true (inRange c e) (Ok tt) (Err (Range (e .place))) r)
     go (Some k) p = p
+
+-- the same of an event that stands in a sound list
+pub placed-acquired : (c : Counts) (e : Event) → Placed c e → (o : Object) → Acquires e o → Declares c o
+placed-acquired c e p o a = acquires-declared c (e .thread) (e .number) (p .thread) o (e .letter) (p .number) a
+
+pub placed-released : (c : Counts) (e : Event) → Placed c e → (o : Object) → Releases e o → Declares c o
+placed-released c e p o a = releases-declared c (e .thread) (e .number) (p .thread) o (e .letter) (p .number) a

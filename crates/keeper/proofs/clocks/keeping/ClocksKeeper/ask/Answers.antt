@@ -4,8 +4,8 @@ use Rattle.event.specs.declared.record.Event.{Event}
 use Rattle.event.specs.Entries.{IsEntry}
 use Rattle.keeper.specs.Kept.{counts-of, many, Clocked}
 use Rattle.keeper.specs.Telling.{undeclared, unless}
-use Rattle.keeper.proofs.Clocking.{clocked-entry, entry-computed}
-use Rattle.keeper.proofs.Telling.{asked, none-undeclared}
+use Rattle.keeper.proofs.Clocking.{clocked-entry}
+use Rattle.keeper.proofs.Telling.{asked, none-undeclared, entry-computed}
 use Rattle.keeper.proofs.clocks.keeping.ClocksKeeper.ask.Needs as need
 
 pub returns : need.returns
