@@ -4,13 +4,16 @@ use mathlib.Core.List.{List}
 use Prim.Native.Nat.{ℕ, _≤_}
 use lib.ListN.{length, take}
 use Rattle.std.specs.declared.option.Option.{Option}
+use Rattle.std.specs.declared.option.Option.the-variants.{None}
 use Rattle.event.specs.declared.counts.Counts.{Counts}
 use Rattle.event.specs.declared.record.Event.{Event}
 use Rattle.event.specs.Ranges.{nearest}
 use Rattle.stamp.specs.declared.clock.Clock.{Clock}
 use Rattle.stamp.specs.Clocks.{NoLater, zeros, ticks}
-use Rattle.stamp.specs.Slots.{slots}
+use Rattle.stamp.specs.Slots.{slots, lacking}
 use Rattle.stamp.specs.Tables.{Means}
+use Rattle.keeper.specs.declared.clocks.Clocks.{Clocks}
+use Rattle.keeper.specs.declared.walk.Walk.{Walk}
 use Rattle.keeper.specs.declared.plain.PlainCounts.{PlainCounts}
 use Rattle.keeper.specs.Telling.{Fits, last-place}
 
@@ -37,3 +40,29 @@ pub record Walked (c : Counts) (events : List Event) (n : ℕ) (last : Option �
   pub count : n ≡ length es
   pub latest : last ≡ last-place es
   pub front : es ≡ take n events
+
+-- the clocks' meaning
+abbrev pub clocks-counts : Clocks → Counts
+clocks-counts k = counts-of (k .plain)
+
+abbrev pub clocks-capacity : Clocks → ℕ
+clocks-capacity k = many
+
+abbrev pub clocks-lacks : Clocks → Counts → Option ℕ
+clocks-lacks k c = lacking c (length (k .threads .now)) (length (k .objects .now))
+
+abbrev pub clocks-told : Clocks → List Event → Type 0
+clocks-told k es = Clocked (clocks-counts k) (k .threads .now) (k .objects .now) (k .told) (k .last) es
+
+-- the walk's meaning: no table of it depends on the counts
+abbrev pub walk-counts : Walk → Counts
+walk-counts k = counts-of (k .plain)
+
+abbrev pub walk-capacity : Walk → ℕ
+walk-capacity k = length (k .events .now)
+
+abbrev pub walk-lacks : Walk → Counts → Option ℕ
+walk-lacks k c = None
+
+abbrev pub walk-told : Walk → List Event → Type 0
+walk-told k es = Walked (walk-counts k) (k .events .now) (k .told) (k .last) es

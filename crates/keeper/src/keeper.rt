@@ -1,13 +1,12 @@
 // What a keeper of the order of events is.
-ghost use mathlib.Core.List.{List, [], _∷_, _++_};
+ghost use mathlib.Core.List.{List};
 ghost use mathlib.Core.Path.{_≡_};
 ghost use Prim.Native.Nat.{ℕ};
-ghost use Rattle.std.specs.Vec.{made, refused};
 ghost use Rattle.std.specs.declared.option.Option.{Option};
 ghost use Rattle.event.specs.declared.counts.Counts.{Counts};
 ghost use Rattle.event.specs.declared.record.Event.{Event};
-ghost use Rattle.event.specs.Entries.{IsEntry};
-ghost use Rattle.keeper.specs.Telling.{Fits, clearing, telling, undeclared, asking, fault-of};
+ghost use Rattle.keeper.specs.Meaning.{Clears, Tells, Asks};
+ghost use Rattle.keeper.specs.Telling.{Fits};
 use event::CallerFault;
 use event::Counts;
 use event::Event;
@@ -36,23 +35,12 @@ pub trait Keeper {
 
     // Takes new counts, and forgets what it was told.
     fn clear(&mut self, fresh: Counts) -> Result<(), CallerFault>
-        ensures answer { λ r. ⌜ r ≡ clearing (lacks (now (self .entry)) fresh) ⌝ }
-        ensures cleared { λ r. ⌜ made r (λ _. (counts (now (self .exit)) ≡ fresh) × told (now (self .exit)) []) ⌝ }
-        ensures kept { λ r. ⌜ refused r (λ _. now (self .exit) ≡ now (self .entry)) ⌝ }
-        ensures capacity { λ _. ⌜ capacity (now (self .exit)) ≡ capacity (now (self .entry)) ⌝ }
-        ensures lacks { λ _. ⌜ ((c : Counts) → lacks (now (self .exit)) c ≡ lacks (now (self .entry)) c) ⌝ };
+        ensures clears { λ r. ⌜ Clears counts capacity lacks told (now (self .entry)) (now (self .exit)) fresh r ⌝ };
 
     fn tell(&mut self, e: Event) -> Result<(), CallerFault>
-        ensures answer { λ r. ⌜ ((es : List Event) → told (now (self .entry)) es → r ≡ telling (counts (now (self .entry))) (capacity (now (self .entry))) es e) ⌝ }
-        ensures told { λ r. ⌜ made r (λ _. (es : List Event) → told (now (self .entry)) es → told (now (self .exit)) (es ++ e ∷ [])) ⌝ }
-        ensures kept { λ r. ⌜ refused r (λ _. now (self .exit) ≡ now (self .entry)) ⌝ }
-        ensures counts { λ _. ⌜ counts (now (self .exit)) ≡ counts (now (self .entry)) ⌝ }
-        ensures capacity { λ _. ⌜ capacity (now (self .exit)) ≡ capacity (now (self .entry)) ⌝ }
-        ensures lacks { λ _. ⌜ ((c : Counts) → lacks (now (self .exit)) c ≡ lacks (now (self .entry)) c) ⌝ };
+        ensures tells { λ r. ⌜ Tells counts capacity lacks told (now (self .entry)) (now (self .exit)) e r ⌝ };
 
     // The entry of the thread t for the thread u.
     fn ask(&self, t: usize, u: usize) -> Result<u32, CallerFault>
-        ensures refused { λ r. ⌜ fault-of r ≡ undeclared (counts (now (self .entry))) t u ⌝ }
-        ensures answer { λ r. ⌜ ((es : List Event) → told (now (self .entry)) es → r ≡ asking (counts (now (self .entry))) es t u) ⌝ }
-        ensures entry { λ r. ⌜ made r (λ n. (es : List Event) → told (now (self .entry)) es → IsEntry es t u n) ⌝ };
+        ensures { λ r. ⌜ Asks counts capacity lacks told (now (self .entry)) t u r ⌝ };
 }

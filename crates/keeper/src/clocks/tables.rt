@@ -6,7 +6,7 @@ ghost use Rattle.std.specs.Vec.{made};
 ghost use Rattle.stamp.specs.Clocks.{zeros, later, tick};
 ghost use Rattle.stamp.specs.Slots.{slots, starting};
 ghost use Rattle.stamp.specs.Tables.{cleared, stamp-after, threads-after, objects-after};
-ghost use Rattle.keeper.specs.Kept.{counts-of, Clocked};
+ghost use Rattle.keeper.specs.Kept.{clocks-counts, clocks-told};
 ghost use Rattle.keeper.specs.Telling.{done};
 use crate::clocks::Clocks;
 use crate::plain::PlainCounts;
@@ -31,8 +31,8 @@ impl<'a> Clocks<'a> {
         objects: &'a mut [Clock],
     ) -> Result<Clocks<'a>, CallerFault>
         ensures answer { λ r. ⌜ done r ≡ starting counts (length (now (threads .entry))) (length (now (objects .entry))) ⌝ }
-        ensures counts { λ r. ⌜ made r (λ k. counts-of (k .plain) ≡ counts) ⌝ }
-        ensures told { λ r. ⌜ made r (λ k. Clocked (counts-of (k .plain)) (k .threads .now) (k .objects .now) (k .told) (k .last) []) ⌝ }
+        ensures counts { λ r. ⌜ made r (λ k. clocks-counts k ≡ counts) ⌝ }
+        ensures told { λ r. ⌜ made r (λ k. clocks-told k []) ⌝ }
         ensures threads { λ r. ⌜ made r (λ k. k .threads .now ≡ cleared (counts .threads) zeros (now (threads .entry))) ⌝ }
         ensures objects { λ r. ⌜ made r (λ k. k .objects .now ≡ cleared (slots counts) zeros (now (objects .entry))) ⌝ }
     {
@@ -48,7 +48,7 @@ impl<'a> Clocks<'a> {
 
     // The clock of the event's thread after the event.
     fn clock_after(&self, e: Event) -> Clock
-        ensures { λ r. ⌜ r ≡ stamp-after later zeros (counts-of (now (self .entry) .plain)) (now (now (self .entry) .threads)) (now (now (self .entry) .objects)) e (tick e) ⌝ }
+        ensures { λ r. ⌜ r ≡ stamp-after later zeros (clocks-counts (now (self .entry))) (now (now (self .entry) .threads)) (now (now (self .entry) .objects)) e (tick e) ⌝ }
     {
         let before = copy_out(self.threads, usize::from(e.thread));
         let slot = slot_of(self.plain.counts(), e.acquires());
@@ -57,8 +57,8 @@ impl<'a> Clocks<'a> {
 
     // Carries an event through both tables.
     pub(super) fn carry(&mut self, e: Event)
-        ensures threads { λ _. ⌜ now (now (self .exit) .threads) ≡ threads-after later zeros (counts-of (now (self .entry) .plain)) (now (now (self .entry) .threads)) (now (now (self .entry) .objects)) e (tick e) ⌝ }
-        ensures objects { λ _. ⌜ now (now (self .exit) .objects) ≡ objects-after later zeros (counts-of (now (self .entry) .plain)) (now (now (self .entry) .threads)) (now (now (self .entry) .objects)) e (tick e) ⌝ }
+        ensures threads { λ _. ⌜ now (now (self .exit) .threads) ≡ threads-after later zeros (clocks-counts (now (self .entry))) (now (now (self .entry) .threads)) (now (now (self .entry) .objects)) e (tick e) ⌝ }
+        ensures objects { λ _. ⌜ now (now (self .exit) .objects) ≡ objects-after later zeros (clocks-counts (now (self .entry))) (now (now (self .entry) .threads)) (now (now (self .entry) .objects)) e (tick e) ⌝ }
         ensures plain { λ _. ⌜ now (self .exit) .plain ≡ now (self .entry) .plain ⌝ }
         ensures told { λ _. ⌜ now (self .exit) .told ≡ now (self .entry) .told ⌝ }
     {

@@ -1,9 +1,11 @@
 // The walk as a keeper.
+ghost use mathlib.Core.Bool.{cond};
 ghost use mathlib.Core.List.{[]};
 ghost use mathlib.Core.Path.{_≡_};
-ghost use lib.ListN.{length};
-ghost use Rattle.std.specs.declared.option.Option.the-variants.{None};
-ghost use Rattle.keeper.specs.Kept.{counts-of, Walked};
+ghost use lib.ListN.{set};
+ghost use Rattle.std.specs.Results.{isOk};
+ghost use Rattle.keeper.specs.Kept.{walk-counts, walk-capacity, walk-lacks, walk-told};
+ghost use Rattle.keeper.specs.Meaning.{Clears, Tells};
 use crate::admit::admit;
 use crate::admit::declared;
 use crate::keeper::Keeper;
@@ -17,8 +19,8 @@ use event::Event;
 impl<'a> Walk<'a> {
     // Making a keeper is a first clearing, and a walk has no table that depends on the counts: it is not refused.
     pub fn new(counts: Counts, events: &'a mut [Event]) -> Walk<'a>
-        ensures counts { λ k. ⌜ counts-of (k .plain) ≡ counts ⌝ }
-        ensures told { λ k. ⌜ Walked (counts-of (k .plain)) (k .events .now) (k .told) (k .last) [] ⌝ }
+        ensures counts { λ k. ⌜ walk-counts k ≡ counts ⌝ }
+        ensures told { λ k. ⌜ walk-told k [] ⌝ }
         ensures events { λ k. ⌜ k .events .now ≡ now (events .entry) ⌝ }
     {
         Walk {
@@ -31,13 +33,13 @@ impl<'a> Walk<'a> {
 }
 
 pub impl<'a> Keeper for Walk<'a> as WalkKeeper {
-    ghost counts = { λ k. counts-of (k .plain) };
+    ghost counts = { walk-counts };
 
-    ghost capacity = { λ k. length (k .events .now) };
+    ghost capacity = { walk-capacity };
 
-    ghost lacks = { λ k c. None };
+    ghost lacks = { walk-lacks };
 
-    ghost told = { λ k es. Walked (counts-of (k .plain)) (k .events .now) (k .told) (k .last) es };
+    ghost told = { walk-told };
 
     ghost fits = { λ k es h. h .fits };
 
@@ -49,14 +51,22 @@ pub impl<'a> Keeper for Walk<'a> as WalkKeeper {
         self.events.len()
     }
 
-    fn clear(&mut self, fresh: Counts) -> Result<(), CallerFault> {
+    // The lent list stays as it is.
+    fn clear(&mut self, fresh: Counts) -> Result<(), CallerFault>
+        ensures clears { λ r. ⌜ Clears walk-counts walk-capacity walk-lacks walk-told (now (self .entry)) (now (self .exit)) fresh r ⌝ }
+        ensures events { λ _. ⌜ now (now (self .exit) .events) ≡ now (now (self .entry) .events) ⌝ }
+    {
         self.plain = PlainCounts::new(fresh);
         self.told = 0;
         self.last = None;
         Ok(())
     }
 
-    fn tell(&mut self, e: Event) -> Result<(), CallerFault> {
+    // Writes the event behind those told.
+    fn tell(&mut self, e: Event) -> Result<(), CallerFault>
+        ensures tells { λ r. ⌜ Tells walk-counts walk-capacity walk-lacks walk-told (now (self .entry)) (now (self .exit)) e r ⌝ }
+        ensures events { λ r. ⌜ now (now (self .exit) .events) ≡ cond (isOk r) (set (now (now (self .entry) .events)) (now (self .entry) .told) e) (now (now (self .entry) .events)) ⌝ }
+    {
         let n = self.told;
         admit(self.plain.counts(), self.events.len(), n, self.last, e)?;
         self.events[n] = e;

@@ -19,7 +19,7 @@ returns c =
     let found : (es : List Event) → Clocked counts (me .threads .now) (me .objects .now) (me .told) (me .last) es → IsEntry es t u n = λ es h.
     clocked-entry counts (me .threads .now) (me .objects .now) (me .told) (me .last) es t u n (c .copy-out-clock .result) h (both .1) (both .2) (c .copy-out-clock .ensures) (c .entry .ensures .entry) in
     record {
-      refused = both .0;
+      undeclared-only = both .0;
       answer = λ es h. asked counts es t u n (both .0) (entry-computed counts many es t u n (h .fits) (found es h));
       entry = found;
     }

@@ -17,9 +17,14 @@ returns c =
     let threads = c .clear .ensures ∙ ap (λ n. cleared n zeros ts) (c .threads .ensures) in
     let objects = c .clear-2 .ensures ∙ ap (λ n. cleared n zeros os) (c .slots .ensures) in
     record {
-      answer = ok;
-      cleared = (c .new-self .ensures, clocked-none fresh _ ts os _ _ (c .new-self .ensures) ok threads objects);
-      kept = tt;
-      capacity = refl;
-      lacks = λ d. ap₂ (lacking d) (ap length threads ∙ length-cleared _ zeros ts) (ap length objects ∙ length-cleared _ zeros os);
+      clears = record {
+        answer = ok;
+        now-counts = c .new-self .ensures;
+        empty = clocked-none fresh _ ts os _ _ (c .new-self .ensures) ok threads objects;
+        kept = tt;
+        same-capacity = refl;
+        same-tables = λ d. ap₂ (lacking d) (ap length threads ∙ length-cleared _ zeros ts) (ap length objects ∙ length-cleared _ zeros os);
+      };
+      threads = threads;
+      objects = objects;
     }

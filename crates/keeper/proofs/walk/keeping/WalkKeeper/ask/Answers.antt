@@ -21,7 +21,7 @@ returns c =
     let found : (es : List Event) → Walked counts (me .events .now) (me .told) (me .last) es → IsEntry es t u n = λ es h.
     walked-entry counts (c .counts-counts .result) (me .events .now) (me .told) (c .min-n .result) (me .last) es t u n same (c .min-n .ensures) h (both .1) (both .2) (c .entry .ensures) in
     record {
-      refused = both .0;
+      undeclared-only = both .0;
       answer = λ es h. asked counts es t u n (both .0) (entry-computed counts (length (me .events .now)) es t u n (h .fits) (found es h));
       entry = found;
     }

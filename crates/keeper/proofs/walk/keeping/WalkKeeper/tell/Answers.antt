@@ -15,10 +15,13 @@ returns c =
     let e = c .args .e in
     let ok : Ok tt ≡ admitting counts room (me .told) (me .last) e = sym (c .in-Continue-admit .was tt) ∙ c .admit .ensures ∙ ap (λ d. admitting d room (me .told) (me .last) e) (c .counts .ensures) in
     record {
-      answer = λ es h. ok ∙ telling-same counts room (me .told) (me .last) e es (h .count) (h .latest);
-      told = λ es h. walked-push counts (me .events .now) (me .told) (me .last) e es (admitted counts room (me .told) (me .last) e ok) h;
-      kept = tt;
-      counts = refl;
-      capacity = length-set (me .events .now) (me .told) e;
-      lacks = λ d. refl;
+      tells = record {
+        answer = λ es h. ok ∙ telling-same counts room (me .told) (me .last) e es (h .count) (h .latest);
+        more = λ es h. walked-push counts (me .events .now) (me .told) (me .last) e es (admitted counts room (me .told) (me .last) e ok) h;
+        kept = tt;
+        same-counts = refl;
+        same-capacity = length-set (me .events .now) (me .told) e;
+        same-tables = λ d. refl;
+      };
+      events = refl;
     }
