@@ -4,7 +4,6 @@ use mathlib.Core.Bool.{Bool, true, false, cond}
 use Prim.Native.Nat.{ℕ, _<_, _≤_}
 use native.Mathlib.Omega.{arith}
 use lib.Dec.{ltb}
-use Rattle.std.proofs.shelf.Tests.{cond-true}
 use borrow.Author.Tests.{ltb-true, ltb-false, clash}
 use Rattle.std.specs.declared.option.Option.{Option}
 use Rattle.std.specs.declared.option.Option.the-variants.{Some, None}
@@ -12,7 +11,7 @@ use Rattle.std.specs.declared.result.Result.{Result}
 use Rattle.std.specs.declared.result.Result.the-variants.{Ok, Err}
 use Rattle.event.specs.declared.counts.Counts.{Counts}
 use Rattle.event.specs.declared.fault.CallerFault.{CallerFault}
-use Rattle.event.specs.declared.fault.CallerFault.the-variants.{Range, Table}
+use Rattle.event.specs.declared.fault.CallerFault.the-variants.{Range}
 use Rattle.event.specs.declared.letter.Letter.{Letter}
 use Rattle.event.specs.declared.letter.Letter.the-variants.{Read, Write, Acquire, Release, Fork, Join, Begin, End, Strong, Weak, Downgrade, Stop}
 use Rattle.event.specs.declared.object.Object.{Object}
@@ -89,25 +88,33 @@ acquired-declared c e h o a = let r = in-range c e h in acquires-declared c (e .
 pub released-declared : (c : Counts) (e : Event) → inRange c e ≡ true → (o : Object) → Releases e o → Declares c o
 released-declared c e h o a = let r = in-range c e h in releases-declared c (e .thread) (e .number) (r .0) o (e .letter) (r .1) a
 
+abbrev good : Result (Unit {0}) CallerFault
+good = Ok tt
+
+-- an answer that was refused is not the good one
+refusal : {A : Type 0} {f : CallerFault} → good ≡ Err f → A
+refusal e = absurd (let z : _≡_ {A = ℕ} 0 1 = cc in omega arith)
+
 -- a start is taken where both tables are large enough
 pub started-fits : (c : Counts) (m n : ℕ) → Ok tt ≡ starting c m n → (c .threads ≤ m) × (slots c ≤ n)
 started-fits c m n h = go (ltb m (c .threads)) refl (ltb n (slots c)) refl h
   where
-    refused : {k : ℕ} {A : Type 0} → _≡_ {A = Result (Unit {0}) CallerFault} (Ok tt) (Err (Table k)) → A
-    refused e = absurd (let z : _≡_ {A = ℕ} 0 1 = cc in omega arith)
-
-    go : (a : Bool) → ltb m (c .threads) ≡ a → (b : Bool) → ltb n (slots c) ≡ b → Ok tt ≡ unless-lacking (cond a (Some (c .threads)) (cond b (Some (slots c)) None)) (Ok tt) → (c .threads ≤ m) × (slots c ≤ n)
-    go true p b q e = refused e
-    go false p true q e = refused e
+    go : (a : Bool) → ltb m (c .threads) ≡ a → (b : Bool) → ltb n (slots c) ≡ b → good ≡ unless-lacking (cond a (Some (c .threads)) (cond b (Some (slots c)) None)) (Ok tt) → (c .threads ≤ m) × (slots c ≤ n)
+    go true p b q e = refusal e
+    go false p true q e = refusal e
     go false p false q e = (ltb-false _ _ p, ltb-false _ _ q)
 
--- where a start is taken, an event in range is
-pub handed-ok : (c : Counts) (m n : ℕ) (e : Event) → Ok tt ≡ starting c m n → inRange c e ≡ true → Ok tt ≡ handing c m n e
-handed-ok c m n e h r = go (lacking c m n) h
+-- an event is taken where the tables are large enough and it is in range
+pub handed-fits : (c : Counts) (m n : ℕ) (e : Event) → Ok tt ≡ handing c m n e → (c .threads ≤ m) × (slots c ≤ n) × (inRange c e ≡ true)
+handed-fits c m n e h =
+    let both = go (lacking c m n) refl (inRange c e) refl h in
+    let fits = started-fits c m n (both .0) in
+    (fits .0, fits .1, both .1)
   where
-    go : (o : Option ℕ) → Ok tt ≡ unless-lacking o (Ok tt) → Ok tt ≡ unless-lacking o (cond (inRange c e) (Ok tt) (Err (Range (e .place))))
-    go None p = sym (cond-true (inRange c e) (Ok tt) (Err (Range (e .place))) r)
-    go (Some k) p = p
+    go : (o : Option ℕ) → lacking c m n ≡ o → (b : Bool) → inRange c e ≡ b → good ≡ unless-lacking o (cond b (Ok tt) (Err (Range (e .place)))) → (good ≡ starting c m n) × (inRange c e ≡ true)
+    go None p true q s = (sym (ap (λ o. unless-lacking o (Ok tt)) p), q)
+    go None p false q s = refusal s
+    go (Some k) p b q s = refusal s
 
 -- the same of an event that stands in a sound list
 pub placed-acquired : (c : Counts) (e : Event) → Placed c e → (o : Object) → Acquires e o → Declares c o

@@ -1,9 +1,10 @@
 // Which entries of the tables belong to an event, and whether the tables are large enough.
 ghost use mathlib.Core.Path.{_≡_};
 ghost use Rattle.std.specs.Options.{mapped};
-ghost use Rattle.stamp.specs.Slots.{slot, slots, starting};
+ghost use Rattle.stamp.specs.Slots.{slot, slots, starting, handing};
 use event::CallerFault;
 use event::Counts;
+use event::Event;
 use event::Object;
 
 pub fn slot(counts: Counts, object: Object) -> usize
@@ -48,4 +49,18 @@ pub fn room(counts: Counts, threads: usize, objects: usize) -> Result<(), Caller
         });
     }
     Ok(())
+}
+
+// Refuses tables that are too small, then an event whose thread or number is not declared.
+pub fn takes(counts: Counts, threads: usize, objects: usize, e: Event) -> Result<(), CallerFault>
+    ensures { λ r. ⌜ r ≡ handing counts threads objects e ⌝ }
+{
+    room(counts, threads, objects)?;
+    if counts.in_range(e) {
+        Ok(())
+    } else {
+        Err(CallerFault::Range {
+            place: e.place as usize,
+        })
+    }
 }

@@ -11,6 +11,7 @@ use crate::kind::Stamp;
 use crate::slots::room;
 use crate::slots::slot_of;
 use crate::slots::slots;
+use crate::slots::takes;
 use event::CallerFault;
 use event::Counts;
 use event::Event;
@@ -103,12 +104,7 @@ pub fn hand_in<S: Stamp>(
     ensures objects { λ r. ⌜ now (objects .exit) ≡ cond (isOk r) (objects-after (S·Stamp .joined) (S·Stamp .least) counts (now (threads .entry)) (now (objects .entry)) event contribution) (now (objects .entry)) ⌝ }
     ensures law { λ r. ⌜ made r (λ _. Adds (S·Stamp .below) (S·Stamp .least) counts event contribution (now (threads .entry)) (now (objects .entry)) (now (threads .exit)) (now (objects .exit))) ⌝ }
 {
-    room(counts, threads.len(), objects.len())?;
-    if !counts.in_range(event) {
-        return Err(CallerFault::Range {
-            place: event.place as usize,
-        });
-    }
+    takes(counts, threads.len(), objects.len(), event)?;
     let thread = usize::from(event.thread);
     let before = copy_out(threads, thread);
     let stamp = acquire(objects, slot_of(counts, event.acquires()), before).join(contribution);
