@@ -10,7 +10,8 @@ use Rattle.event.specs.Order.{_∈_, by-thread, Chain, start, more, Access}
 use Rattle.event.specs.Thins.{Rising}
 use Rattle.event.specs.Entries.{Reaches}
 use Rattle.order.specs.Marks.{entry}
-use Rattle.event.specs.Entries.{IsEntry, nothing, highest}
+use Rattle.event.specs.Entries.{Latest-of, IsEntry, nothing, highest}
+use Rattle.order.proofs.Behind.{reaches-latest}
 use Rattle.order.proofs.Chaining.{chain-first, chain-join, to-access}
 use Rattle.order.proofs.Front.{place-once, rising-front}
 use Rattle.order.proofs.Newest.{Comes, itself, by-step, not-old, comes, step-to-new}
@@ -29,6 +30,12 @@ module _ (L : List Event) (r : Rising L) (t : ℕ) (e : Event) (i : e ∈ L) whe
 
   pub reaches-told : Reaches L e t ↔ (e .place < entry L t (e .thread))
   reaches-told = (λ c. entry-upper L r t (e .thread) e refl c, told (entry L t (e .thread)) (entry-right L r t (e .thread)))
+
+pub entry-test : (L : List Event) → Rising L → (t : ℕ) (l : Event) → Latest-of L t l → (i : Event) → i ∈ L → Chain L i l ↔ (i .place < entry L t (i .thread))
+entry-test L r t l h i m = (
+  λ c. reaches-told L r t i m .0 (reaches-latest L r t l h i .1 c),
+  λ lt. reaches-latest L r t l h i .0 (reaches-told L r t i m .1 lt),
+)
 
 pub clock-test : (L : List Event) (j : Event) → Rising (L ++ j ∷ []) → Access j → (i : Event) → i ∈ L → Chain (L ++ j ∷ []) i j ↔ (i .place < entry L (j .thread) (i .thread))
 clock-test L j r a i m = (

@@ -1,7 +1,7 @@
 -- Leaving accesses out keeps chains and races.
 use mathlib.Core.Path.{_≡_, sym, subst, _∙_}
 use mathlib.Core.Logic.{_⊎_, inl, inr, ⊎-elim}
-use mathlib.Core.List.{List, List·Memᴰ·head, List·Memᴰ·tail, List·Memᴰ·cases-cons}
+use mathlib.Core.List.{List, [], _∷_, List·Memᴰ·head, List·Memᴰ·tail, List·Memᴰ·cases-cons}
 use Prim.Native.Nat.{_<_}
 use native.Mathlib.Omega.{arith}
 use Rattle.event.specs.declared.record.Event.{Event}
@@ -14,6 +14,16 @@ pub thins-within : {W P : List Event} → Thins W P → Within P W
 thins-within none e m = m
 thins-within (keep t) e m = ⊎-elim (λ s. List·Memᴰ·head s) (λ n. List·Memᴰ·tail (thins-within t e n)) (List·Memᴰ·cases-cons m)
 thins-within (drop a t) e m = List·Memᴰ·tail (thins-within t e m)
+
+pub thins-self : (W : List Event) → Thins W W
+thins-self [] = none
+thins-self (e ∷ W) = keep (thins-self W)
+
+pub thins-through : {W P Q : List Event} → Thins W P → Thins P Q → Thins W Q
+thins-through none t = t
+thins-through (keep s) (keep t) = keep (thins-through s t)
+thins-through (keep s) (drop a t) = drop a (thins-through s t)
+thins-through (drop a s) t = drop a (thins-through s t)
 
 access-cast : {e f : Event} → e ≡ f → Access f → Access e
 access-cast s a = subst Access (sym s) a

@@ -22,6 +22,14 @@ pub record Thinned (W P : List Event) (e f : Event) : Type 0 where
 abbrev pub Thinning-keeps-races : Type 0
 Thinning-keeps-races = (W P : List Event) → Thins W P → (e f : Event) → e ∈ P → f ∈ P → Thinned W P e f
 
+-- a list is a thinning of itself, and a thinning of a thinning is one
+pub record Piled : Type 0 where
+  pub itself : (W : List Event) → Thins W W
+  pub through : (W P Q : List Event) → Thins W P → Thins P Q → Thins W Q
+
+abbrev pub Thinnings-pile-up : Type 0
+Thinnings-pile-up = Piled
+
 -- a chain never leaves the part before its last event
 abbrev pub Later-events-add-no-chain : Type 0
 Later-events-add-no-chain = (L M : List Event) → Rising (L ++ M) → (e f : Event) → e ∈ L → f ∈ L → Chain (L ++ M) e f ↔ Chain L e f
@@ -54,6 +62,10 @@ The-latest-is-reached = (L : List Event) → Rising L → (t : ℕ) (l : Event) 
 abbrev pub Regions-are-computed : Type 0
 Regions-are-computed = (L : List Event) → Rising L → (p : Event) (k : ℕ) → k ≤ length L → ((opens L p ≤ k) × (k ≤ closes L p)) ↔ Region L p k
 
--- the check at an access: its thread's entry for an earlier event's thread tells whether a chain leads from that event to the access
+-- a thread's entry for an earlier event's thread tells whether a chain leads from that event to the thread's latest one
+abbrev pub The-entry-test : Type 0
+The-entry-test = (L : List Event) → Rising L → (t : ℕ) (l : Event) → Latest-of L t l → (i : Event) → i ∈ L → Chain L i l ↔ (i .place < entry L t (i .thread))
+
+-- the check at an access before it is told: its thread's entry for an earlier event's thread tells whether a chain leads from that event to the access
 abbrev pub The-clock-test : Type 0
 The-clock-test = (L : List Event) (j : Event) → Rising (L ++ j ∷ []) → Access j → (i : Event) → i ∈ L → Chain (L ++ j ∷ []) i j ↔ (i .place < entry L (j .thread) (i .thread))

@@ -1,5 +1,5 @@
 // Chains, entries and clocks.
-ghost use Rattle.order.specs.Theorems.{Later-events-add-no-chain, Chains-are-computed, Entries-are-computed, The-latest-is-reached, The-clock-test};
+ghost use Rattle.order.specs.Theorems.{Later-events-add-no-chain, Chains-are-computed, Entries-are-computed, The-latest-is-reached, The-entry-test, The-clock-test};
 
 pub fn later_events_add_no_chain() -> u8
     ensures { λ _. ⌜ Later-events-add-no-chain ⌝ }
@@ -21,6 +21,12 @@ pub fn entries_are_computed() -> u8
 
 pub fn the_latest_is_reached() -> u8
     ensures { λ _. ⌜ The-latest-is-reached ⌝ }
+{
+    0
+}
+
+pub fn the_entry_test() -> u8
+    ensures { λ _. ⌜ The-entry-test ⌝ }
 {
     0
 }

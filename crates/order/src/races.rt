@@ -1,6 +1,12 @@
 // Races, and what is found of them.
 ghost use Rattle.order.specs.Runs.{A-told-race-is-found, With-no-filter-each-race-is-found, More-events-find-more-in-runs, An-ordered-pair-is-never-found};
-ghost use Rattle.order.specs.Theorems.{Thinning-keeps-races, More-events-find-more};
+ghost use Rattle.order.specs.Theorems.{Thinnings-pile-up, Thinning-keeps-races, More-events-find-more};
+
+pub fn thinnings_pile_up() -> u8
+    ensures { λ _. ⌜ Thinnings-pile-up ⌝ }
+{
+    0
+}
 
 pub fn thinning_keeps_races() -> u8
     ensures { λ _. ⌜ Thinning-keeps-races ⌝ }
