@@ -14,9 +14,10 @@ use Rattle.event.specs.declared.record.Event.{Event}
 use Rattle.event.specs.Entries.{IsEntry}
 use Rattle.event.specs.Objects.{released}
 use Rattle.event.specs.Thins.{Rising}
-use Rattle.order.specs.Stamps.{events, Behind, Bound}
+use Rattle.order.specs.Stamps.{deeds, Behind, Bound}
+use Rattle.order.proofs.Deeds.{deed, events-deeds, deeds-push}
 use Rattle.stamp.specs.declared.clock.Clock.{Clock}
-use Rattle.stamp.specs.Clocks.{NoLater, later, zeros, tick, ticks, Tells-entry}
+use Rattle.stamp.specs.Clocks.{NoLater, later, zeros, tick, Tells-entry}
 use Rattle.stamp.specs.Slots.{slot, slots, starting}
 use Rattle.stamp.specs.Tables.{cleared, Means, joined-into, stamp-after, threads-after, objects-after}
 use Rattle.stamp.proofs.Carrying.{adds, means-none, length-cleared}
@@ -24,14 +25,6 @@ use Rattle.stamp.proofs.Clocks.{clock-laws}
 use Rattle.stamp.proofs.Slotting.{started-fits}
 use Rattle.keeper.specs.Kept.{many, Clocked}
 use Rattle.keeper.proofs.Telling.{Admitted, fits-push, last-push, admitted-told}
-
-ticks-push : (L : List Event) (e : Event) → ticks (L ++ e ∷ []) ≡ ticks L ++ record { event = e; gives = tick e } ∷ []
-ticks-push [] e = refl
-ticks-push (x ∷ L) e = ap (λ M. record { event = x; gives = tick x } ∷ M) (ticks-push L e)
-
-ticks-events : (L : List Event) → events (ticks L) ≡ L
-ticks-events [] = refl
-ticks-events (e ∷ L) = ap (λ M. e ∷ M) (ticks-events L)
 
 length-into : (os : List Clock) (o : Option ℕ) (s : Clock) → length (joined-into later os o s) ≡ length os
 length-into os None s = refl
@@ -62,14 +55,14 @@ pub clocked-push : (c : Counts) (ts os ts′ os′ : List Clock) (n : ℕ) (last
 clocked-push c ts os ts′ os′ n last e es p q a h =
     let told = admitted-told c many n last e es (h .count) (h .latest) a in
     let fit = fits-push c many es e (h .fits) told in
-    let more = adds clock-laws c ts os (h .threads-fit) (h .objects-fit) e (tick e) (a .ranged) (ticks es) (subst (λ L. Rising (L ++ e ∷ [])) (sym (ticks-events es)) (fit .sound .rising)) (h .stamps) in
+    let more = adds clock-laws c ts os (h .threads-fit) (h .objects-fit) e (tick e) (a .ranged) (deeds tick es) (subst (λ L. Rising (L ++ e ∷ [])) (sym (events-deeds tick es)) (fit .sound .rising)) (h .stamps) in
     record {
       fits = fit;
       count = omega (arith, h .count, length-push es e);
       latest = sym (last-push es e);
       threads-fit = omega (arith, h .threads-fit, ap length p ∙ length-threads c ts os e);
       objects-fit = omega (arith, h .objects-fit, ap length q ∙ length-objects c ts os e);
-      stamps = subst (λ xs. Means NoLater zeros c xs ts′ os′) (sym (ticks-push es e)) (subst₂ (λ l m. Means NoLater zeros c (ticks es ++ record { event = e; gives = tick e } ∷ []) l m) (sym p) (sym q) more);
+      stamps = subst (λ xs. Means NoLater zeros c xs ts′ os′) (sym (deeds-push tick es e)) (subst₂ (λ l m. Means NoLater zeros c (deeds tick es ++ deed tick e ∷ []) l m) (sym p) (sym q) more);
     }
 
 -- the same, as a telling finds it
@@ -81,5 +74,5 @@ clocked-told c d ts os ts′ os′ n m last e es same count p q a h =
 pub clocked-entry : (c : Counts) (ts os : List Clock) (n : ℕ) (last : Option ℕ) (es : List Event) (t u m : ℕ) (x : Clock) → Clocked c ts os n last es → t < c .threads → u < c .threads → x ≡ getD ts t zeros → Tells-entry x u m → IsEntry es t u m
 clocked-entry c ts os n last es t u m x h lt lu same tells =
     tells c es t (h .fits .sound) lu
-    (subst (λ y. Bound NoLater (ticks es) (λ e. Behind es e t) y) (sym same)
-    (subst (λ L. Bound NoLater (ticks es) (λ e. Behind L e t) (getD ts t zeros)) (ticks-events es) (h .stamps .thread t lt)))
+    (subst (λ y. Bound NoLater (deeds tick es) (λ e. Behind es e t) y) (sym same)
+    (subst (λ L. Bound NoLater (deeds tick es) (λ e. Behind L e t) (getD ts t zeros)) (events-deeds tick es) (h .stamps .thread t lt)))

@@ -3,7 +3,7 @@
 use mathlib.Core.Path.{_≡_, refl, sym, ap, subst, _∙_}
 use mathlib.Core.Bool.{Bool, true, false}
 use mathlib.Core.Logic.{_⊎_, inl, inr, ⊎-elim}
-use mathlib.Core.List.{List, [], _∷_, List·Memᴰ·head, List·Memᴰ·tail, List·Memᴰ·not-nil, List·Memᴰ·cases-cons}
+use mathlib.Core.List.{List, List·Memᴰ·head, List·Memᴰ·tail, List·Memᴰ·not-nil, List·Memᴰ·cases-cons}
 use Prim.Native.Nat.{ℕ, suc, _+_, _-_, _^_, _<_, _≤_, min}
 use native.Mathlib.Omega.{arith}
 use lib.ListN.{length, getD, set, drop, replicate, length-set, length-replicate}
@@ -76,12 +76,6 @@ flag-stays fs (Some k) j h = stays-up fs k j h
 length-flag : (fs : List Bool) (s : Option ℕ) → length (flag fs s) ≡ length fs
 length-flag fs None = refl
 length-flag fs (Some k) = length-set fs k true
-
--- past its end no flag is up
-pub flag-past : (fs : List Bool) (k : ℕ) → length fs ≤ k → fs ≡ set fs k true
-flag-past [] k h = refl
-flag-past (f ∷ fs) Prim.Native.Nat.zero h = absurd (omega arith)
-flag-past (f ∷ fs) (suc k) h = ap (λ l. f ∷ l) (flag-past fs k (omega arith))
 
 module _ (c : Counts) (L : List Event) (sound : Sound c L) (t u : ℕ) where
   -- before the first step

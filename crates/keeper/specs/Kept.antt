@@ -8,8 +8,9 @@ use Rattle.std.specs.declared.option.Option.the-variants.{None}
 use Rattle.event.specs.declared.counts.Counts.{Counts}
 use Rattle.event.specs.declared.record.Event.{Event}
 use Rattle.event.specs.Ranges.{nearest}
+use Rattle.order.specs.Stamps.{deeds}
 use Rattle.stamp.specs.declared.clock.Clock.{Clock}
-use Rattle.stamp.specs.Clocks.{NoLater, zeros, ticks}
+use Rattle.stamp.specs.Clocks.{NoLater, zeros, tick}
 use Rattle.stamp.specs.Slots.{slots, lacking}
 use Rattle.stamp.specs.Tables.{Means}
 use Rattle.keeper.specs.declared.clocks.Clocks.{Clocks}
@@ -32,7 +33,7 @@ pub record Clocked (c : Counts) (ts os : List Clock) (n : ℕ) (last : Option �
   pub latest : last ≡ last-place es
   pub threads-fit : c .threads ≤ length ts
   pub objects-fit : slots c ≤ length os
-  pub stamps : Means NoLater zeros c (ticks es) ts os
+  pub stamps : Means NoLater zeros c (deeds tick es) ts os
 
 -- a lent list whose first n events are es
 pub record Walked (c : Counts) (events : List Event) (n : ℕ) (last : Option ℕ) (es : List Event) : Type 0 where

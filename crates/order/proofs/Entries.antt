@@ -1,8 +1,8 @@
 -- Entries: what the bound of the ticks behind a thread gives, and that the computed ones are right.
-use mathlib.Core.Path.{fun-ext, _≡_, refl, sym, ap, subst, _∙_}
+use mathlib.Core.Path.{fun-ext, _≡_, refl, sym, subst, _∙_}
 use mathlib.Core.Bool.{Bool, true, false, cond, Bool-discrete}
 use mathlib.Core.Logic.{_⊎_, inl, inr, ⊎-elim}
-use mathlib.Core.List.{List, [], _∷_, List·Memᴰ, List·Memᴰ·head, List·Memᴰ·tail, List·Memᴰ·not-nil, List·Memᴰ·cases-cons, Memᴰ·cast}
+use mathlib.Core.List.{List, [], _∷_, List·Memᴰ·head, List·Memᴰ·tail, List·Memᴰ·not-nil, List·Memᴰ·cases-cons, Memᴰ·cast}
 use Prim.Native.Nat.{ℕ, suc, _≤_}
 use native.Mathlib.Omega.{arith}
 use native.Mathlib.Decide.{ℕ-discrete}
@@ -12,10 +12,11 @@ use Rattle.event.specs.declared.record.Event.{Event}
 use Rattle.event.specs.Order.{_∈_}
 use Rattle.event.specs.Thins.{Rising}
 use Rattle.event.specs.Entries.{Reaches}
-use Rattle.order.specs.Stamps.{Laws, Deed, events, Bound}
-use Rattle.order.specs.Marks.{Clock, tick, ticks, larger, zeros, entry, reaches}
+use Rattle.order.specs.Stamps.{Laws, Deed, deeds, Bound}
+use Rattle.order.specs.Marks.{Clock, tick, larger, zeros, entry, reaches}
 use Rattle.event.specs.Entries.{IsEntry, nothing, highest}
 use Rattle.order.proofs.Chaining.{chain-first}
+use Rattle.order.proofs.Deeds.{deed, events-deeds, deed-in, deed-of}
 use Rattle.order.proofs.Joins.{laws-of-bounds}
 use Rattle.order.proofs.Finding.{latest, both}
 use Rattle.order.proofs.Stamping.{stamps-reached}
@@ -34,18 +35,6 @@ clock-laws =
     (λ x y u. omega arith)
     (λ x y z a b u. omega (arith, a u, b u))
     (λ x u. omega arith)
-
-ticks-events : (L : List Event) → events (ticks L) ≡ L
-ticks-events [] = refl
-ticks-events (e ∷ L) = ap (λ M. e ∷ M) (ticks-events L)
-
-tick-in : (L : List Event) {e : Event} → e ∈ L → List·Memᴰ (tick e) (ticks L)
-tick-in [] m = absurd (List·Memᴰ·not-nil m)
-tick-in (x ∷ L) m = ⊎-elim (λ s. List·Memᴰ·head (ap tick s)) (λ n. List·Memᴰ·tail (tick-in L n)) (List·Memᴰ·cases-cons m)
-
-tick-of : (L : List Event) (y : Deed Clock) → List·Memᴰ y (ticks L) → y ≡ tick (y .event)
-tick-of [] y m = absurd (List·Memᴰ·not-nil m)
-tick-of (x ∷ L) y m = ⊎-elim (λ s. s ∙ ap tick (ap (λ (d : Deed Clock). d .event) (sym s))) (λ n. tick-of L y n) (List·Memᴰ·cases-cons m)
 
 -- which events of u reach t is decided
 module _ (L : List Event) (r : Rising L) (t u : ℕ) where
@@ -105,21 +94,21 @@ entry-once (highest e s c p top) (nothing q g) = absurd (g e s c)
 entry-once (highest e s c p top) (highest f w d q tip) = let a = top f w d in let b = tip e s c in omega arith
 
 module _ (L : List Event) (r : Rising L) (t u : ℕ) where
-  bound : Bound Below (ticks L) (λ e. Reaches L e t) (λ v. entry L t v)
+  bound : Bound Below (deeds tick L) (λ e. Reaches L e t) (λ v. entry L t v)
   bound =
-      subst (λ M. Bound Below (ticks L) (λ e. Reaches M e t) (λ v. entry L t v)) (ticks-events L)
-      (stamps-reached clock-laws (ticks L) (subst Rising (sym (ticks-events L)) r) t)
+      subst (λ M. Bound Below (deeds tick L) (λ e. Reaches M e t) (λ v. entry L t v)) (events-deeds tick L)
+      (stamps-reached clock-laws (deeds tick L) (subst Rising (sym (events-deeds tick L)) r) t)
 
   pub entry-upper : (e : Event) → e .thread ≡ u → Reaches L e t → suc (e .place) ≤ entry L t u
   entry-upper e s c =
-      let h = bound .upper (tick e) (tick-in L (chain-first (c .chain))) c u in
+      let h = bound .upper (deed tick e) (deed-in tick L (chain-first (c .chain))) c u in
       let b : eqb (e .thread) u ≡ true = eq-eqb _ _ s in
       rw b at h
 
   -- n bounds what the events of u give
   entry-least : (n : ℕ) → ((e : Event) → e .thread ≡ u → Reaches L e t → suc (e .place) ≤ n) → entry L t u ≤ n
   entry-least n k =
-      let h = bound .least other (λ y m c v. subst (λ (d : Deed Clock). d .gives v ≤ other v) (sym (tick-of L y m)) (at (y .event) v c (eqb v u) refl (eqb (y .event .thread) v) refl)) u in
+      let h = bound .least other (λ y m c v. subst (λ (d : Deed Clock). d .gives v ≤ other v) (sym (deed-of tick L y m .0)) (at (y .event) v c (eqb v u) refl (eqb (y .event .thread) v) refl)) u in
       let b : eqb u u ≡ true = eq-eqb u u refl in
       rw b at h
     where
@@ -130,7 +119,7 @@ module _ (L : List Event) (r : Rising L) (t u : ℕ) where
       at e v c true p true q = k e (eqb-true _ _ q ∙ eqb-true _ _ p) c
       at e v c true p false q = omega arith
       at e v c false p true q =
-          let h = bound .upper (tick e) (tick-in L (chain-first (c .chain))) c v in rw q at h
+          let h = bound .upper (deed tick e) (deed-in tick L (chain-first (c .chain))) c v in rw q at h
       at e v c false p false q = omega arith
 
   pub entry-right : IsEntry L t u (entry L t u)

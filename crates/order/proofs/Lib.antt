@@ -10,6 +10,7 @@ pub mod Moments
 pub mod Bounds
 pub mod Behind
 pub mod Joins
+pub mod Deeds
 pub mod Stamping
 pub mod Pushes
 pub mod Marking

@@ -8,7 +8,7 @@ use Rattle.std.specs.declared.option.Option.the-variants.{Some, None}
 use Rattle.event.specs.declared.object.Object.{Object}
 use Rattle.event.specs.declared.record.Event.{Event}
 use Rattle.event.specs.Objects.{released, acquired}
-use Rattle.order.specs.Stamps.{same-object, Deed, run, fresh}
+use Rattle.order.specs.Stamps.{same-object, deeds, run, fresh}
 
 -- the one is released, and the other, the same, acquired
 abbrev pub passes : Option Object → Option Object → Bool
@@ -48,12 +48,9 @@ reaches L p t = has-thread t (marked p [] L)
 abbrev pub Clock : Type 0
 Clock = ℕ → ℕ
 
-abbrev pub tick : Event → Deed Clock
-tick e = record { event = e; gives = λ u. cond (eqb (e .thread) u) (suc (e .place)) 0 }
-
-abbrev pub ticks : List Event → List (Deed Clock)
-ticks [] = []
-ticks (e ∷ L) = tick e ∷ ticks L
+-- what an event contributes: one more than its place, for its own thread
+abbrev pub tick : Event → Clock
+tick e = λ u. cond (eqb (e .thread) u) (suc (e .place)) 0
 
 abbrev pub larger : Clock → Clock → Clock
 larger c d = λ u. max (c u) (d u)
@@ -63,7 +60,7 @@ zeros = λ u. 0
 
 -- one more than the latest place of u that t knows of
 abbrev pub entry : List Event → ℕ → ℕ → ℕ
-entry L t u = run larger (fresh zeros) (ticks L) .threads t u
+entry L t u = run larger (fresh zeros) (deeds tick L) .threads t u
 
 -- do the places rise strictly, from p on?
 abbrev pub rises-from : ℕ → List Event → Bool

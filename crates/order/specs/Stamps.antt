@@ -35,6 +35,11 @@ abbrev pub events : {S : Type 0} → List (Deed S) → List Event
 events [] = []
 events (x ∷ xs) = x .event ∷ events xs
 
+-- the events of a list, each with what it contributes
+abbrev pub deeds : {S : Type 0} → (Event → S) → List Event → List (Deed S)
+deeds give [] = []
+deeds give (e ∷ L) = record { event = e; gives = give e } ∷ deeds give L
+
 -- e is behind the thread t: a chain leads from it to t's latest event
 pub record Behind (L : List Event) (e : Event) (t : ℕ) : Type 0 where
   pub latest : Event

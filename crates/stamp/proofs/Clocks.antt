@@ -1,8 +1,8 @@
 -- Clocks keep the laws of stamps, and a clock of what is behind a thread has its entries.
-use mathlib.Core.Path.{_≡_, refl, sym, ap, subst, _∙_}
+use mathlib.Core.Path.{_≡_, refl, sym, subst, _∙_}
 use mathlib.Core.HLevel.{isProp→PathP}
 use mathlib.Core.Logic.{⊎-elim}
-use mathlib.Core.List.{List, [], _∷_, List·Memᴰ, List·Memᴰ·head, List·Memᴰ·tail, List·Memᴰ·not-nil, List·Memᴰ·cases-cons}
+use mathlib.Core.List.{List, [], _∷_, List·Memᴰ, List·Memᴰ·not-nil, List·Memᴰ·cases-cons}
 use Prim.Native.Nat.{ℕ, zero, suc, _+_, _-_, _^_, _<_, _≤_, max, min}
 use native.Mathlib.Nat.{ℕ-set}
 use native.Mathlib.Omega.{arith}
@@ -16,13 +16,15 @@ use Rattle.event.specs.declared.record.Event.{Event}
 use Rattle.event.specs.Entries.{Reaches, IsEntry}
 use Rattle.event.specs.Order.{_∈_}
 use Rattle.event.specs.Thins.{Placed, Sound}
-use Rattle.order.specs.Stamps.{Laws, Deed, Behind, Bound}
+use Rattle.order.specs.Stamps.{Laws, Deed, deeds, Behind, Bound}
 use Rattle.order.proofs.Behind.{behind-iff}
 use Rattle.order.proofs.Chaining.{chain-first}
+use Rattle.order.proofs.Deeds.{deed, deed-in, deed-of}
 use Rattle.order.proofs.Entries.{is-entry}
 use Rattle.order.proofs.Joins.{laws-of-bounds}
+use Rattle.stamp.proofs.Carrying.{set-past}
 use Rattle.stamp.specs.declared.clock.Clock.{Clock}
-use Rattle.stamp.specs.Clocks.{NoLater, maxes, later, zeros, clock-of, tick, ticks, Tells-entry}
+use Rattle.stamp.specs.Clocks.{NoLater, maxes, later, zeros, clock-of, tick, Tells-entry}
 
 -- two clocks with the same entries are one
 pub same-clock : (x y : Clock) → x .entries ≡ y .entries → x ≡ y
@@ -67,11 +69,6 @@ is-later r x y h = same-entries r (later x y) (λ k lt. omega (arith, h k lt, at
 pub at-past : (x : Clock) (k : ℕ) → 16 ≤ k → 0 ≡ at x k
 at-past x k h = sym (getD-past (x .entries) k 0 (omega (arith, x .wide)))
 
-set-past : (es : List ℕ) (k v : ℕ) → length es ≤ k → set es k v ≡ es
-set-past [] k v h = refl
-set-past (e ∷ es) zero v h = absurd (omega arith)
-set-past (e ∷ es) (suc k) v h = ap (λ l. e ∷ l) (set-past es k v (omega arith))
-
 -- an event of a thread past the sixteenth contributes nothing
 pub tick-past : (e : Event) → 16 ≤ e .thread → replicate 16 0 ≡ tick e .entries
 tick-past e h = sym (set-past (replicate 16 0) (e .thread) _ (omega (arith, length-replicate {A = ℕ} 16 0)))
@@ -82,30 +79,19 @@ tick-own e lt le = getD-set-same (replicate 16 0) (e .thread) (min (e .place + 1
 tick-other : (e : Event) (k : ℕ) → (k ≡ e .thread → ⊥) → at (tick e) k ≡ 0
 tick-other e k ne = getD-set-other (replicate 16 0) (e .thread) k (min (e .place + 1) (2 ^ 32 - 1)) 0 ne ∙ getD-zeros 16 k
 
-abbrev ticked : Event → Deed Clock
-ticked e = record { event = e; gives = tick e }
-
-tick-in : (L : List Event) {e : Event} → e ∈ L → List·Memᴰ (ticked e) (ticks L)
-tick-in [] m = absurd (List·Memᴰ·not-nil m)
-tick-in (x ∷ L) m = ⊎-elim (λ s. List·Memᴰ·head (ap ticked s)) (λ n. List·Memᴰ·tail (tick-in L n)) (List·Memᴰ·cases-cons m)
-
-tick-of : (L : List Event) (y : Deed Clock) → List·Memᴰ y (ticks L) → y ≡ ticked (y .event)
-tick-of [] y m = absurd (List·Memᴰ·not-nil m)
-tick-of (x ∷ L) y m = ⊎-elim (λ s. s ∙ ap ticked (ap (λ (d : Deed Clock). d .event) (sym s))) (λ n. tick-of L y n) (List·Memᴰ·cases-cons m)
-
 pub placed-in : (c : Counts) (L : List Event) → Every (Placed c) L → {e : Event} → e ∈ L → Placed c e
 placed-in c [] h m = absurd (List·Memᴰ·not-nil m)
 placed-in c (x ∷ L) h m = ⊎-elim (λ s. subst (Placed c) (sym s) (h .0)) (λ n. placed-in c L (h .1) n) (List·Memᴰ·cases-cons m)
 
 -- The clock bounds each tick behind t, and so its number for u bounds the places of u's events there. It is below each other clock that
 -- bounds the ticks: so is the one with another such number for u.
-module _ (x : Clock) (c : Counts) (L : List Event) (t u : ℕ) (sound : Sound c L) (declared : u < c .threads) (bound : Bound NoLater (ticks L) (λ e. Behind L e t) x) where
+module _ (x : Clock) (c : Counts) (L : List Event) (t u : ℕ) (sound : Sound c L) (declared : u < c .threads) (bound : Bound NoLater (deeds tick L) (λ e. Behind L e t) x) where
   fits : (e : Event) → Reaches L e t → (e .thread < 16) × (e .place ≤ 999999)
   fits e r = let p = placed-in c L (sound .placed) (chain-first (r .chain)) in (omega (arith, p .thread, c .limits), p .place)
 
   upper : (e : Event) → e .thread ≡ u → Reaches L e t → suc (e .place) ≤ at x u
   upper e s r =
-      let h = bound .upper (ticked e) (tick-in L (chain-first (r .chain))) (behind-iff L (sound .rising) e t .0 r) u in
+      let h = bound .upper (deed tick e) (deed-in tick L (chain-first (r .chain))) (behind-iff L (sound .rising) e t .0 r) u in
       let own = tick-own e (fits e r .0) (fits e r .1) ∙ refl in
       omega (arith, h, subst (λ k. at (tick e) k ≡ suc (e .place)) s own)
 
@@ -130,14 +116,14 @@ module _ (x : Clock) (c : Counts) (L : List Event) (t u : ℕ) (sound : Sound c 
           (λ ne. omega (arith, tick-other e k (λ w. ne (sym w))))
           (cases-eq (e .thread) k)
 
-      under : (y : Deed Clock) → List·Memᴰ y (ticks L) → Behind L (y .event) t → NoLater (y .gives) (raised n)
+      under : (y : Deed Clock) → List·Memᴰ y (deeds tick L) → Behind L (y .event) t → NoLater (y .gives) (raised n)
       under y m b k =
           let e = y .event in
           let r = behind-iff L (sound .rising) e t .1 b in
-          subst (λ (d : Deed Clock). at (d .gives) k ≤ at (raised n) k) (sym (tick-of L y m))
+          subst (λ (d : Deed Clock). at (d .gives) k ≤ at (raised n) k) (sym (deed-of tick L y m .0))
           (⊎-elim
           (below-own e r k)
-          (λ ne. let up = bound .upper (ticked e) (tick-in L (chain-first (r .chain))) b k in omega (arith, raised-other n k ne))
+          (λ ne. let up = bound .upper (deed tick e) (deed-in tick L (chain-first (r .chain))) b k in omega (arith, raised-other n k ne))
           (cases-eq k u))
 
   entry-told : IsEntry L t u (at x u)

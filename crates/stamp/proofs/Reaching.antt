@@ -2,7 +2,7 @@
 use mathlib.Core.Path.{_≡_, refl, sym, ap, subst, _∙_}
 use mathlib.Core.Bool.{Bool, true, false, cond}
 use mathlib.Core.Logic.{_⊎_, inl, inr, ⊎-elim}
-use mathlib.Core.List.{List, [], _∷_, List·Memᴰ, List·Memᴰ·head, List·Memᴰ·tail, List·Memᴰ·not-nil, List·Memᴰ·cases-cons, Memᴰ·cast}
+use mathlib.Core.List.{List, [], _∷_, List·Memᴰ·not-nil, List·Memᴰ·cases-cons, Memᴰ·cast}
 use Prim.Native.Nat.{ℕ, _^_, _<_}
 use native.Mathlib.Omega.{arith}
 use native.Mathlib.Nat.{le-refl, zero-add}
@@ -13,13 +13,14 @@ use Rattle.std.proofs.shelf.Tests.{cases-eq, cond-true}
 use Rattle.event.specs.declared.record.Event.{Event}
 use Rattle.event.specs.Order.{_∈_}
 use Rattle.event.specs.Thins.{Rising}
-use Rattle.order.specs.Stamps.{Laws, Deed, Behind, Bound}
+use Rattle.order.specs.Stamps.{Laws, Deed, deeds, Behind, Bound}
 use Rattle.order.proofs.Behind.{behind-iff}
 use Rattle.order.proofs.Chaining.{chain-first}
+use Rattle.order.proofs.Deeds.{deed, deed-in, deed-of}
 use Rattle.order.proofs.Entries.{some-reaches}
 use Rattle.order.proofs.Joins.{laws-of-bounds}
 use Rattle.stamp.specs.declared.reach.Reach.{Reach}
-use Rattle.stamp.specs.Reaching.{digit, Has, Subset, union, nobody, only, visits, Holds-of, Felt, Few, Counts-threads}
+use Rattle.stamp.specs.Reaching.{digit, Has, Subset, union, nobody, only, visit, Holds-of, Felt, Few, Counts-threads}
 use Rattle.stamp.proofs.Digits.{digit-small, digit-zero, digit-or, digit-own, digit-other, by-digits, places-of, places-many, places-once, place-digit, digit-place}
 
 -- two digits that are 1 together are the same
@@ -69,21 +70,6 @@ only-other t u ne h = go (ltb t 16) h
     go true k = omega (arith, k, digit-other t u ne)
     go false k = omega (arith, k, digit-zero u)
 
-abbrev visit : Event → Deed Reach
-visit e = record { event = e; gives = only (e .thread) }
-
-visit-in : (L : List Event) {e : Event} → e ∈ L → List·Memᴰ (visit e) (visits L)
-visit-in [] m = absurd (List·Memᴰ·not-nil m)
-visit-in (x ∷ L) m = ⊎-elim (λ s. List·Memᴰ·head (ap visit s)) (λ n. List·Memᴰ·tail (visit-in L n)) (List·Memᴰ·cases-cons m)
-
-visit-of : (L : List Event) (y : Deed Reach) → List·Memᴰ y (visits L) → (y ≡ visit (y .event)) × (y .event ∈ L)
-visit-of [] y m = absurd (List·Memᴰ·not-nil m)
-visit-of (x ∷ L) y m =
-    ⊎-elim
-    (λ s. let e : y .event ≡ x = ap (λ (d : Deed Reach). d .event) s in (s ∙ ap visit (sym e), List·Memᴰ·head e))
-    (λ n. let h = visit-of L y n in (h .0, List·Memᴰ·tail (h .1)))
-    (List·Memᴰ·cases-cons m)
-
 few-in : (L : List Event) → Few L → {e : Event} → e ∈ L → e .thread < 16
 few-in [] h m = absurd (List·Memᴰ·not-nil m)
 few-in (x ∷ L) h m = ⊎-elim (λ s. omega (arith, h .0, ap (λ (v : Event). v .thread) s)) (λ n. few-in L (h .1) n) (List·Memᴰ·cases-cons m)
@@ -121,19 +107,19 @@ others-have u (x ∷ L) {e} m ne v h =
 
 -- The set bounds the thread of each event behind t from above. Were u in it with no event behind t, the other threads would be
 -- a smaller bound.
-module _ (s : Reach) (L : List Event) (t : ℕ) (up : Rising L) (few : Few L) (bound : Bound Subset (visits L) (λ e. Behind L e t) s) where
+module _ (s : Reach) (L : List Event) (t : ℕ) (up : Rising L) (few : Few L) (bound : Bound Subset (deeds visit L) (λ e. Behind L e t) s) where
   felt-has : (u : ℕ) → Felt L t u → Has s u
   felt-has u f =
       let e = f .event in
       let m = chain-first (f .behind .chain) in
-      bound .upper (visit e) (visit-in L m) (f .behind) u (subst (λ v. Has (only (e .thread)) v) (f .of) (only-own (e .thread) (few-in L few m)))
+      bound .upper (deed visit e) (deed-in visit L m) (f .behind) u (subst (λ v. Has (only (e .thread)) v) (f .of) (only-own (e .thread) (few-in L few m)))
 
   has-felt : (u : ℕ) → Has s u → Felt L t u
   has-felt u h =
       ⊎-elim
       (λ f. record { event = f .0; of = f .1; behind = behind-iff L up (f .0) t .0 (f .2) })
       (λ none. absurd (others-lack u L (bound .least (others u L) (λ y m b.
-      let v = visit-of L y m in
+      let v = deed-of visit L y m in
       subst (λ (d : Deed Reach). Subset (d .gives) (others u L)) (sym (v .0)) (others-have u L (v .1) (λ w. none (y .event) w (behind-iff L up (y .event) t .1 b)))) u h)))
       (some-reaches L up t u)
 

@@ -8,7 +8,7 @@ use Rattle.event.specs.declared.counts.Counts.{Counts}
 use Rattle.event.specs.declared.record.Event.{Event}
 use Rattle.event.specs.Entries.{IsEntry}
 use Rattle.event.specs.Thins.{Sound}
-use Rattle.order.specs.Stamps.{Deed, Behind, Bound}
+use Rattle.order.specs.Stamps.{deeds, Behind, Bound}
 use Rattle.stamp.specs.declared.clock.Clock.{Clock}
 
 -- a clock is not above another where none of its entries is
@@ -39,10 +39,6 @@ zeros = clock-of (replicate 16 0) refl
 abbrev pub tick : Event → Clock
 tick e = let v = min (e .place + 1) (2 ^ 32 - 1) in clock-of (set (replicate 16 0) (e .thread) v) (length-set (replicate 16 0) (e .thread) v)
 
-abbrev pub ticks : List Event → List (Deed Clock)
-ticks [] = []
-ticks (e ∷ L) = record { event = e; gives = tick e } ∷ ticks L
-
 -- where x is what the events behind t give, its number for u is n: the entry of t for u
 abbrev pub Tells-entry : Clock → ℕ → ℕ → Type 0
-Tells-entry x u n = (c : Counts) (L : List Event) (t : ℕ) → Sound c L → u < c .threads → Bound NoLater (ticks L) (λ e. Behind L e t) x → IsEntry L t u n
+Tells-entry x u n = (c : Counts) (L : List Event) (t : ℕ) → Sound c L → u < c .threads → Bound NoLater (deeds tick L) (λ e. Behind L e t) x → IsEntry L t u n

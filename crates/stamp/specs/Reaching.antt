@@ -10,7 +10,7 @@ use lib.ListN.{length}
 use Rattle.std.specs.Vec.{Every}
 use Rattle.event.specs.declared.record.Event.{Event}
 use Rattle.event.specs.Thins.{Rising}
-use Rattle.order.specs.Stamps.{Deed, Behind, Bound}
+use Rattle.order.specs.Stamps.{deeds, Behind, Bound}
 use Rattle.stamp.specs.declared.reach.Reach.{Reach}
 
 -- the digit of n at u, counted from the lowest
@@ -36,9 +36,8 @@ abbrev pub only : ℕ → Reach
 only t = record { members = cond (ltb t 16) (2 ^ t) 0 }
 
 -- what an event contributes: its thread
-abbrev pub visits : List Event → List (Deed Reach)
-visits [] = []
-visits (e ∷ L) = record { event = e; gives = only (e .thread) } ∷ visits L
+abbrev pub visit : Event → Reach
+visit e = only (e .thread)
 
 -- each number of the list is above n
 abbrev pub Above : ℕ → List ℕ → Type 0
@@ -68,4 +67,4 @@ Few L = Every (λ e. e .thread < 16) L
 
 -- where s is what the events behind t give, it has n members exactly where n threads have an event behind t
 abbrev pub Counts-threads : Reach → ℕ → Type 0
-Counts-threads s n = (L : List Event) (t : ℕ) → Rising L → Few L → Bound Subset (visits L) (λ e. Behind L e t) s → Holds-of (Felt L t) n
+Counts-threads s n = (L : List Event) (t : ℕ) → Rising L → Few L → Bound Subset (deeds visit L) (λ e. Behind L e t) s → Holds-of (Felt L t) n
