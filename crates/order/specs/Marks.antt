@@ -1,4 +1,4 @@
--- Chains, entries and regions as functions that compute.
+-- Chains and entries as functions that compute.
 use mathlib.Core.Bool.{Bool, true, false, cond, _&&_, _||_}
 use mathlib.Core.List.{List, [], _∷_}
 use Prim.Native.Nat.{ℕ, suc, max}

@@ -10,7 +10,7 @@ use Rattle.event.specs.Entries.{Latest-of, Reaches, IsEntry}
 use Rattle.event.specs.Order.{_∈_, Within, Chain, Access, Conflict, Race}
 use Rattle.event.specs.Thins.{Rising, Thins}
 use Rattle.order.specs.Finds.{Alike, Found}
-use Rattle.order.specs.Marks.{chained, entry}
+use Rattle.order.specs.Marks.{chained, reaches, entry}
 use Rattle.order.specs.Regions.{Region, opens, closes}
 use Rattle.order.specs.Stamps.{Deed, events, run, fresh, Sums, All}
 
@@ -23,12 +23,9 @@ abbrev pub Thinning-keeps-races : Type 0
 Thinning-keeps-races = (W P : List Event) → Thins W P → (e f : Event) → e ∈ P → f ∈ P → Thinned W P e f
 
 -- a list is a thinning of itself, and a thinning of a thinning is one
-pub record Piled : Type 0 where
+pub record Thinnings-pile-up : Type 0 where
   pub itself : (W : List Event) → Thins W W
   pub through : (W P Q : List Event) → Thins W P → Thins P Q → Thins W Q
-
-abbrev pub Thinnings-pile-up : Type 0
-Thinnings-pile-up = Piled
 
 -- a chain never leaves the part before its last event
 abbrev pub Later-events-add-no-chain : Type 0
@@ -49,6 +46,10 @@ Stamps-sum-up {S} below join least = (xs : List (Deed S)) → Rising (events xs)
 -- the function that computes says whether a chain leads from one event to another
 abbrev pub Chains-are-computed : Type 0
 Chains-are-computed = (L : List Event) → Rising L → (e f : Event) → e ∈ L → f ∈ L → (chained L (e .place) (f .place) ≡ true) ↔ Chain L e f
+
+-- and whether one leads from an event to some event of a thread
+abbrev pub Reaching-is-computed : Type 0
+Reaching-is-computed = (L : List Event) → Rising L → (e : Event) → e ∈ L → (t : ℕ) → (reaches L (e .place) t ≡ true) ↔ Reaches L e t
 
 -- the computed entry is the highest place that reaches
 abbrev pub Entries-are-computed : Type 0

@@ -1,5 +1,5 @@
 // Chains, entries and clocks.
-ghost use Rattle.order.specs.Theorems.{Later-events-add-no-chain, Chains-are-computed, Entries-are-computed, The-latest-is-reached, The-entry-test, The-clock-test};
+ghost use Rattle.order.specs.Theorems.{Later-events-add-no-chain, Chains-are-computed, Reaching-is-computed, Entries-are-computed, The-latest-is-reached, The-entry-test, The-clock-test};
 
 pub fn later_events_add_no_chain() -> u8
     ensures { λ _. ⌜ Later-events-add-no-chain ⌝ }
@@ -9,6 +9,12 @@ pub fn later_events_add_no_chain() -> u8
 
 pub fn chains_are_computed() -> u8
     ensures { λ _. ⌜ Chains-are-computed ⌝ }
+{
+    0
+}
+
+pub fn reaching_is_computed() -> u8
+    ensures { λ _. ⌜ Reaching-is-computed ⌝ }
 {
     0
 }
