@@ -1,0 +1,4 @@
+pub mod Telling
+pub mod Clocking
+pub mod Walking
+pub mod Storing

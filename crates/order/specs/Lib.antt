@@ -1,0 +1,6 @@
+pub mod Finds
+pub mod Runs
+pub mod Regions
+pub mod Stamps
+pub mod Marks
+pub mod Theorems

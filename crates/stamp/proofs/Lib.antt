@@ -1,0 +1,5 @@
+pub mod Clocks
+pub mod Digits
+pub mod Reaching
+pub mod Slotting
+pub mod Carrying

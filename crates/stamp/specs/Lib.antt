@@ -1,0 +1,4 @@
+pub mod Clocks
+pub mod Reaching
+pub mod Slots
+pub mod Tables
