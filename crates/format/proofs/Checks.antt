@@ -106,3 +106,18 @@ verdict-good ks c s z i n m bs e q h k =
 -- the events that keep the rules are all there
 pub got-length : (ks : List ObjectKind) (c : Counts) (s : Standing) (n : ℕ) (bs : List ℕ) → Ok (gotEvents c 0 n bs) ≡ ruledFrom ks c s 0 n bs → length (gotEvents c 0 n bs) ≡ n
 got-length ks c s n bs h = ruled-length ks c s 0 n bs (gotEvents c 0 n bs) (sym h)
+
+judged-place : (c : Counts) (e x : Event) → judged c e ≡ Ok x → x .place ≡ e .place
+judged-place c e x h = go (inRange c e) (access e) (eqb (e .region) 0) h
+  where
+    go : (b a z : Bool) → cond b (cond a (Ok e) (cond z (Ok e) (Err (Region (e .place))))) (Err (Range (e .place))) ≡ Ok x → x .place ≡ e .place
+    go true true z k = ap (λ (v : Event). v .place) (sym (ok-ok {E = EventFault} e x k))
+    go true false true k = ap (λ (v : Event). v .place) (sym (ok-ok {E = EventFault} e x k))
+    go true false false k = err-ok _ x k
+    go false a z k = err-ok _ x k
+
+-- an event has the place that it was read at
+pub event-place : (c : Counts) (i : ℕ) (bs : List ℕ) (e : Event) → Ok e ≡ eventAt c i bs → e .place ≡ i
+event-place c i bs e h =
+    let a = then-ok (okOr (letterAt (getD bs 0 0)) (NoLetter i)) (eventBody c i bs) e (sym h) in
+    judged-place c _ e (a .2)

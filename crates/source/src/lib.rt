@@ -3,6 +3,7 @@ pub mod filter;
 pub mod lent;
 pub mod list;
 pub mod picker;
+pub mod recorded;
 pub mod refusal;
 pub mod sampler;
 pub mod source;

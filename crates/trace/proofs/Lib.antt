@@ -4,3 +4,4 @@ pub mod Laying
 pub mod Layouts
 pub mod Scans
 pub mod Counting
+pub mod Soundness

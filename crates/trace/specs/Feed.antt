@@ -12,6 +12,7 @@ use Rattle.format.specs.Events.{gotEvents}
 abbrev pub coming : Events → List Event
 coming s = gotEvents (s .counts) (s .place) (s .count - s .place) (s .rest .now)
 
+-- the next event, which is then gone, or none if there is none
 abbrev pub Fed : Events → Option Event → Events → Type 0
-Fed s None t = coming s ≡ []
-Fed s (Some e) t = coming s ≡ e ∷ coming t
+Fed s None t = (coming s ≡ []) × (coming t ≡ []) × (t .counts ≡ s .counts)
+Fed s (Some e) t = (coming s ≡ e ∷ coming t) × (t .counts ≡ s .counts)

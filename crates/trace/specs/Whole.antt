@@ -1,7 +1,7 @@
 -- What a trace that borrows from the file stands for.
 use mathlib.Core.Path.{_≡_}
 use mathlib.Core.List.{List}
-use Prim.Native.Nat.{ℕ, _+_}
+use Prim.Native.Nat.{ℕ, _+_, min}
 use lib.ListN.{length}
 use Rattle.event.specs.declared.counts.Counts.{Counts}
 use Rattle.event.specs.Ranges.{nearest}
@@ -32,7 +32,7 @@ countsIn t = nearest (t .threads .count) (t .objects .count) (t .variables .coun
 abbrev pub contentsOf : Trace → Contents
 contentsOf t =
     contents (itemsIn (t .threads)) (itemsIn (t .objects)) (itemsIn (t .variables))
-    (gotEvents (countsIn t) 0 (t .events .count) (t .events .bytes .now))
+    (gotEvents (countsIn t) 0 (min (t .events .count) 1000000) (t .events .bytes .now))
 
 -- the counts that a trace answers are those of its contents
 pub record Counted (t : Trace) : Type 0 where

@@ -1,6 +1,8 @@
 // A trace that was read. It borrows from the file's bytes.
 use crate::section::Section;
 
+pub mod contents;
+
 // The events' part of the file: how many there are, and their bytes.
 #[derive(Clone, Copy)]
 pub struct Block<'a> {
