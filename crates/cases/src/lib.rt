@@ -1,4 +1,8 @@
 // Tests by table: trace files written as short scripts, and what must come of them.
 #[cfg(test)]
+mod keepers;
+#[cfg(test)]
 mod reader;
 mod script;
+#[cfg(test)]
+mod sources;
