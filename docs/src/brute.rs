@@ -48,11 +48,8 @@ impl Event {
     }
 }
 
-#[derive(Debug)]
 pub struct Trace {
     pub threads: usize,
-    pub mutexes: Vec<bool>,
-    pub variables: usize,
     pub events: Vec<Event>,
 }
 
@@ -175,7 +172,7 @@ pub fn read(bytes: &[u8]) -> Result<Trace, Refusal> {
         }
         events.push(e);
     }
-    Ok(Trace { threads, mutexes, variables, events })
+    Ok(Trace { threads, events })
 }
 
 // before[j] has i where a chain leads from i to j: the closure of the single steps
