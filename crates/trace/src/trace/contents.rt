@@ -1,7 +1,6 @@
 // What a trace that was read has.
 ghost use mathlib.Core.Path.{_≡_};
 ghost use Rattle.trace.specs.Feed.{coming};
-ghost use Rattle.trace.specs.Section.{laidIn};
 ghost use Rattle.trace.specs.Whole.{contentsOf, countsIn};
 use crate::events::Events;
 use crate::section::Section;
@@ -11,21 +10,21 @@ use event::Counts;
 impl<'a> Trace<'a> {
     // The section of the threads.
     pub fn threads(&self) -> Section<'a>
-        ensures { λ r. ⌜ laidIn r ≡ laidIn (now (self .entry) .threads) ⌝ }
+        ensures { λ r. ⌜ r ≡ now (self .entry) .threads ⌝ }
     {
         self.threads
     }
 
     // The section of the objects.
     pub fn objects(&self) -> Section<'a>
-        ensures { λ r. ⌜ laidIn r ≡ laidIn (now (self .entry) .objects) ⌝ }
+        ensures { λ r. ⌜ r ≡ now (self .entry) .objects ⌝ }
     {
         self.objects
     }
 
     // The section of the variables.
     pub fn variables(&self) -> Section<'a>
-        ensures { λ r. ⌜ laidIn r ≡ laidIn (now (self .entry) .variables) ⌝ }
+        ensures { λ r. ⌜ r ≡ now (self .entry) .variables ⌝ }
     {
         self.variables
     }
