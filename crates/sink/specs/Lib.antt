@@ -1,3 +1,4 @@
 pub mod Taking
 pub mod Line
 pub mod Written
+pub mod Tallied

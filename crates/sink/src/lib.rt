@@ -4,8 +4,11 @@ pub mod line;
 pub mod lines;
 pub mod pair;
 pub mod sink;
+pub mod tally;
 
 pub use lines::Lines;
 pub use lines::LinesSink;
 pub use pair::Pair;
 pub use sink::Sink;
+pub use tally::Tally;
+pub use tally::counting::TallySink;

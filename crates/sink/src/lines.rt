@@ -1,6 +1,8 @@
 // Lines of text, over bytes that the caller lends.
 ghost use mathlib.Core.Path.{_≡_};
 ghost use mathlib.Core.List.{_++_};
+ghost use Prim.Native.Nat.{_/_};
+ghost use lib.ListN.{length};
 ghost use denote.Ref.{name};
 ghost use Rattle.sink.specs.Written.{Written, lent, room, filled, filled-fits, written, with-line};
 use crate::line;
@@ -19,7 +21,9 @@ pub struct Lines<'a> {
 impl<'a> Lines<'a> {
     // No line yet.
     pub fn new(bytes: &'a mut [u8]) -> Lines<'a>
-        ensures { λ r. ⌜ written r ≡ lent (name (bytes .entry)) (now (bytes .entry)) ⌝ }
+        ensures written { λ r. ⌜ written r ≡ lent (name (bytes .entry)) (now (bytes .entry)) ⌝ }
+        ensures taken { λ r. ⌜ filled r ≡ 0 ⌝ }
+        ensures capacity { λ r. ⌜ room r ≡ length (now (bytes .entry)) / 21 ⌝ }
     {
         Lines { bytes, taken: 0 }
     }
