@@ -1,5 +1,5 @@
 -- A line that is written behind the others.
-use mathlib.Core.Path.{_≡_, refl, sym, ap, _∙_}
+use mathlib.Core.Path.{_≡_, sym, ap, _∙_}
 use mathlib.Core.List.{List, _++_}
 use Prim.Native.Nat.{ℕ, _+_, _-_, _*_, _/_, _<_, _≤_, min}
 use native.Mathlib.Omega.{arith}
@@ -31,7 +31,7 @@ space-overwritten n m bytes l fits wide e =
     ∙ ap (λ k. drop k bytes) to
     ∙ sym (drop-drop 21 (n * 21) bytes)
 
-same-written : (n : ℕ) {a b c d : List ℕ} → a ≡ b → c ≡ d → _≡_ {A = Written} (record { lender = n; lines = a; space = c }) (record { lender = n; lines = b; space = d })
+pub same-written : (n : ℕ) {a b c d : List ℕ} → a ≡ b → c ≡ d → _≡_ {A = Written} (record { lender = n; lines = a; space = c }) (record { lender = n; lines = b; space = d })
 same-written n p q = cc
 
 -- The lines that count before are n, and after n + 1, since there was room for one more: so the front grows by the line, and the space loses it.

@@ -1,4 +1,5 @@
 // What takes findings: lines of text, and a tally of each variable.
+pub mod histories;
 pub mod lent;
 pub mod line;
 pub mod lines;

@@ -1,6 +1,7 @@
 // The line of a pair: both places, the variable and both letters.
 ghost use mathlib.Core.Path.{_≡_};
 ghost use Rattle.sink.specs.Line.{code, digit, line};
+ghost use Rattle.sink.specs.Readable.{A-line-reads-back};
 use crate::pair::Pair;
 use event::Letter;
 
@@ -64,4 +65,11 @@ pub fn line(pair: Pair) -> [u8; 21]
         code(pair.later.letter),
         b'\n',
     ]
+}
+
+// What a line tells of its pair.
+pub fn a_line_reads_back() -> u8
+    ensures { λ _. ⌜ A-line-reads-back ⌝ }
+{
+    0
 }
