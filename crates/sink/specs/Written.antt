@@ -1,6 +1,6 @@
 -- What lines keep: the lines that are written, and the space behind them.
 use mathlib.Core.List.{List, [], _++_}
-use Prim.Native.Nat.{ℕ, _*_, _/_, _≤_, min}
+use Prim.Native.Nat.{ℕ, _+_, _*_, _/_, _≤_, min}
 use native.Mathlib.Omega.{arith}
 use lib.ListN.{length, take, drop}
 use denote.Ref.{name}
@@ -22,6 +22,10 @@ lent n bytes = record { lender = n; lines = []; space = bytes }
 -- one line more, and as much less space
 abbrev pub with-line : Written → Pair → Written
 with-line w p = record { lender = w .lender; lines = w .lines ++ line p; space = drop 21 (w .space) }
+
+-- the bytes with the pair's line behind n others: all else is as it was
+abbrev pub overwritten : ℕ → Pair → List ℕ → List ℕ
+overwritten n p bytes = take (n * 21) bytes ++ (line p ++ drop (n * 21 + 21) bytes)
 
 -- how many lines the bytes have room for
 abbrev pub room : Lines → ℕ

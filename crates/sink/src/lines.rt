@@ -1,10 +1,10 @@
 // Lines of text, over bytes that the caller lends.
 ghost use mathlib.Core.Path.{_≡_};
 ghost use mathlib.Core.List.{_++_};
-ghost use Prim.Native.Nat.{_/_};
+ghost use Prim.Native.Nat.{_/_, _<_};
 ghost use lib.ListN.{length};
 ghost use denote.Ref.{name};
-ghost use Rattle.sink.specs.Written.{Written, lent, room, filled, filled-fits, written, with-line};
+ghost use Rattle.sink.specs.Written.{Written, lent, overwritten, room, filled, filled-fits, written, with-line};
 use crate::line;
 use crate::pair::Pair;
 use crate::sink::Sink;
@@ -68,13 +68,21 @@ pub impl<'a> Sink for Lines<'a> as LinesSink {
 
     fn take(&mut self, pair: Pair) -> Result<(), CallerFault> {
         let capacity = self.room();
-        if self.taken >= capacity {
+        let taken = self.taken;
+        if taken >= capacity {
             return Err(CallerFault::Sink { capacity });
         }
-        let at = self.taken * line::WIDTH;
-        self.bytes[at..at + line::WIDTH]
-            .copy_from_slice(&line::line(pair));
-        self.taken += 1;
+        write(self.bytes, taken, pair);
+        self.taken = taken + 1;
         Ok(())
     }
+}
+
+// Writes the pair's line behind n others.
+fn write(bytes: &mut [u8], n: usize, pair: Pair)
+    requires { ⌜ n < length (now bytes) / 21 ⌝ }
+    ensures { λ _. ⌜ now (bytes .exit) ≡ overwritten n pair (now (bytes .entry)) ⌝ }
+{
+    let at = n * line::WIDTH;
+    bytes[at..at + line::WIDTH].copy_from_slice(&line::line(pair));
 }
