@@ -4,14 +4,19 @@ use mathlib.Core.List.{List, _++_, append-assoc}
 use Prim.Native.Nat.{ℕ, _+_, _*_, _/_, _<_, min}
 use native.Mathlib.Omega.{arith}
 use borrow.Rule.Slice.PartMut.{putMid}
-use lib.ListN.{length, take, drop, length-append, length-drop}
+use lib.ListN.{length, take, drop, take-append-drop, length-append, length-drop}
 use Rattle.std.proofs.shelf.Lists.{drop-drop, length-take-le, take-at, drop-at}
+use Rattle.sink.specs.declared.lines.Lines.{Lines}
 use Rattle.sink.specs.declared.pair.Pair.{Pair}
 use Rattle.sink.specs.Line.{line}
-use Rattle.sink.specs.Written.{Written, overwritten}
+use Rattle.sink.specs.Written.{Written, overwritten, filled, written}
 
 pub same-written : (n : ℕ) {a b c d : List ℕ} → a ≡ b → c ≡ d → _≡_ {A = Written} (record { lender = n; lines = a; space = c }) (record { lender = n; lines = b; space = d })
 same-written n p q = cc
+
+-- the lent bytes are the lines and then the space
+pub all-bytes : (s : Lines) → s .bytes .now ≡ written s .lines ++ written s .space
+all-bytes s = sym (take-append-drop (filled s * 21) (s .bytes .now))
 
 -- what a write to the part of 21 bytes behind n lines leaves
 pub put-line : (at k n : ℕ) (p : Pair) (bytes l : List ℕ) → at ≡ n * 21 → k ≡ 21 → l ≡ line p → putMid at k bytes l ≡ overwritten n p bytes

@@ -36,7 +36,7 @@ fn digit(n: u32) -> u8
 }
 
 // `000003 000005 000 wr` and a newline. Of a larger number its last digits are written.
-pub fn line(pair: Pair) -> [u8; 21]
+pub fn line(pair: Pair) -> [u8; WIDTH]
     ensures { λ r. ⌜ r ≡ line pair ⌝ }
 {
     let earlier = pair.earlier.place;

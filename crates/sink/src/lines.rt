@@ -11,7 +11,8 @@ use crate::sink::Sink;
 use event::CallerFault;
 
 // The lines stand at the front of the bytes. What stands behind them is as it was lent.
-// The toolchain lends no part of a slice out of a struct with an invariant, so none says that the lines taken have room: as many count as have.
+// The toolchain lends no part of a slice out of a struct with an invariant, so none says that there is room for the lines taken: those count that
+// have room.
 #[derive(Drop)]
 pub struct Lines<'a> {
     bytes: &'a mut [u8],

@@ -1,8 +1,6 @@
-use mathlib.Core.Path.{refl, sym}
-use Prim.Native.Nat.{_*_}
-use lib.ListN.{take-append-drop}
-use Rattle.sink.specs.Written.{filled}
+use mathlib.Core.Path.{refl}
+use Rattle.sink.proofs.Writing.{all-bytes}
 use Rattle.sink.proofs.lines.Lines.back.Needs as need
 
 pub returns : need.returns
-returns c = record { bytes = sym (take-append-drop (filled (c .args .self) * 21) (c .args .self .bytes .now)); lender = refl }
+returns c = record { bytes = all-bytes (c .args .self); lender = refl }
