@@ -1,0 +1,3 @@
+pub mod Latest
+pub mod Found
+pub mod Theorems
