@@ -6,3 +6,4 @@ mod reader;
 mod script;
 #[cfg(test)]
 mod sources;
+pub mod worked;
