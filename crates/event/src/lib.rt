@@ -1,5 +1,6 @@
 // The words of a trace: events, what they acquire and release, how many threads, objects and variables there are, and the faults of a caller.
 pub mod access;
+pub mod code;
 pub mod counts;
 pub mod fault;
 pub mod letter;

@@ -3,8 +3,7 @@ use mathlib.Core.List.{List, [], _∷_, _++_}
 use Prim.Native.Nat.{ℕ, _+_, _/_, _%_}
 use lib.ListN.{length}
 use Rattle.std.specs.Joined.{joined}
-use Rattle.event.specs.declared.letter.Letter.{Letter}
-use Rattle.event.specs.declared.letter.Letter.the-variants.{Read, Write, Acquire, Release, Fork, Join, Begin, End, Strong, Weak, Downgrade, Stop}
+pub use Rattle.event.specs.Letters.{code as codeLetter}
 use Rattle.event.specs.declared.record.Event.{Event}
 use Rattle.format.specs.declared.kinds.ObjectKind.{ObjectKind}
 use Rattle.format.specs.declared.kinds.ObjectKind.the-variants.{Mutex, Semaphore}
@@ -36,21 +35,6 @@ codeSection is = two (length is) ++ joined codeItem is
 abbrev pub laidOut : ℕ → List Item → List (ℕ × Item)
 laidOut p [] = []
 laidOut p (i ∷ is) = (p, i) ∷ laidOut (p + length (codeItem i)) is
-
--- `r w a l f j b e M N D Q`
-abbrev pub codeLetter : Letter → ℕ
-codeLetter Read = 114
-codeLetter Write = 119
-codeLetter Acquire = 97
-codeLetter Release = 108
-codeLetter Fork = 102
-codeLetter Join = 106
-codeLetter Begin = 98
-codeLetter End = 101
-codeLetter Strong = 77
-codeLetter Weak = 78
-codeLetter Downgrade = 68
-codeLetter Stop = 81
 
 abbrev pub codeEvent : Event → List ℕ
 codeEvent e = codeLetter (e .letter) ∷ e .thread ∷ (two (e .number) ++ two (e .region))

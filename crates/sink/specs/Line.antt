@@ -2,23 +2,8 @@
 use mathlib.Core.List.{List, [], _∷_, _++_}
 use Prim.Native.Nat.{ℕ, _+_, _/_, _%_}
 use Rattle.event.specs.declared.letter.Letter.{Letter}
-use Rattle.event.specs.declared.letter.Letter.the-variants.{Read, Write, Acquire, Release, Fork, Join, Begin, End, Strong, Weak, Downgrade, Stop}
+use Rattle.event.specs.Letters.{code}
 use Rattle.sink.specs.declared.pair.Pair.{Pair}
-
--- the letter's byte in a trace file: `r w a l f j b e M N D Q`
-abbrev pub code : Letter → ℕ
-code Read = 114
-code Write = 119
-code Acquire = 97
-code Release = 108
-code Fork = 102
-code Join = 106
-code Begin = 98
-code End = 101
-code Strong = 77
-code Weak = 78
-code Downgrade = 68
-code Stop = 81
 
 -- the byte of the number's last decimal digit
 abbrev pub digit : ℕ → ℕ

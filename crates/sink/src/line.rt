@@ -1,32 +1,11 @@
 // The line of a pair: both places, the variable and both letters.
 ghost use mathlib.Core.Path.{_≡_};
-ghost use Rattle.sink.specs.Line.{code, digit, line};
+ghost use Rattle.sink.specs.Line.{digit, line};
 ghost use Rattle.sink.specs.Readable.{A-line-reads-back};
 use crate::pair::Pair;
-use event::Letter;
 
 // The bytes of a line.
 pub const WIDTH: usize = 21;
-
-// The letter's byte in a trace file.
-fn code(letter: Letter) -> u8
-    ensures { λ r. ⌜ r ≡ code letter ⌝ }
-{
-    match letter {
-        Letter::Read => b'r',
-        Letter::Write => b'w',
-        Letter::Acquire => b'a',
-        Letter::Release => b'l',
-        Letter::Fork => b'f',
-        Letter::Join => b'j',
-        Letter::Begin => b'b',
-        Letter::End => b'e',
-        Letter::Strong => b'M',
-        Letter::Weak => b'N',
-        Letter::Downgrade => b'D',
-        Letter::Stop => b'Q',
-    }
-}
 
 // The number's last digit.
 fn digit(n: u32) -> u8
@@ -61,8 +40,8 @@ pub fn line(pair: Pair) -> [u8; WIDTH]
         digit(variable / 10),
         digit(variable),
         b' ',
-        code(pair.earlier.letter),
-        code(pair.later.letter),
+        pair.earlier.letter.code(),
+        pair.later.letter.code(),
         b'\n',
     ]
 }
