@@ -1,0 +1,9 @@
+pub mod Searching
+pub mod Leveling
+pub mod Bounding
+pub mod Spans
+pub mod Marking
+pub mod Covering
+pub mod Tabling
+pub mod Checking
+pub mod Judging
