@@ -7,3 +7,6 @@ pub mod Covering
 pub mod Tabling
 pub mod Checking
 pub mod Judging
+pub mod Agreeing
+pub mod Overlapping
+pub mod Listing

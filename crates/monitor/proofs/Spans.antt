@@ -37,25 +37,25 @@ module _ (L : List Event) where
   ev i = getD L i blank
 
   -- the first i events, and the event at j among them
-  front : (test : Event → Bool) (i j : ℕ) → j < i → j < length L → test (ev j) ≡ true → j < after-last test (take i L)
+  pub front : (test : Event → Bool) (i j : ℕ) → j < i → j < length L → test (ev j) ≡ true → j < after-last test (take i L)
   front test i j lt lj h =
       after-last-above test (take i L) j (omega (arith, length-take i L))
       (ap test (getD-take i L j blank lt) ∙ h)
 
-  front-most : (test : Event → Bool) (i k : ℕ) → ((j : ℕ) → j < i → j < length L → test (ev j) ≡ true → j < k) → after-last test (take i L) ≤ k
+  pub front-most : (test : Event → Bool) (i k : ℕ) → ((j : ℕ) → j < i → j < length L → test (ev j) ≡ true → j < k) → after-last test (take i L) ≤ k
   front-most test i k h =
       after-last-below test (take i L) k (λ j lt p.
       let lj : j < i = omega (arith, length-take i L) in
       h j lj (omega (arith, length-take i L)) (sym (ap test (getD-take i L j blank lj)) ∙ p))
 
-  back : (test : Event → Bool) (i j : ℕ) → i ≤ j → j < length L → test (ev j) ≡ true → i + before-first test (drop i L) ≤ j
+  pub back : (test : Event → Bool) (i j : ℕ) → i ≤ j → j < length L → test (ev j) ≡ true → i + before-first test (drop i L) ≤ j
   back test i j le lj h =
       let n : ℕ = j - i in
       let s : i + n ≡ j = omega arith in
       let m = before-first-below test (drop i L) n (omega (arith, length-drop i L)) (ap test (getD-drop i L n blank ∙ ap ev s) ∙ h) in
       omega arith
 
-  back-most : (test : Event → Bool) (i k : ℕ) → i ≤ length L → k ≤ length L → ((j : ℕ) → i ≤ j → j < length L → test (ev j) ≡ true → k ≤ j) → k ≤ i + before-first test (drop i L)
+  pub back-most : (test : Event → Bool) (i k : ℕ) → i ≤ length L → k ≤ length L → ((j : ℕ) → i ≤ j → j < length L → test (ev j) ≡ true → k ≤ j) → k ≤ i + before-first test (drop i L)
   back-most test i k li lk h =
       let m = before-first-above test (drop i L) (k - i) (omega (arith, length-drop i L)) (λ j lt p.
       let n = h (i + j) (omega arith) (omega (arith, length-drop i L)) (sym (ap test (getD-drop i L j blank)) ∙ p) in

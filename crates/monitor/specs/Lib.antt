@@ -5,3 +5,5 @@ pub mod Looks
 pub mod Tables
 pub mod Faults
 pub mod Checks
+pub mod Overlaps
+pub mod Theorems

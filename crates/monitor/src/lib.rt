@@ -4,6 +4,7 @@ pub mod level;
 pub mod look;
 pub mod placement;
 pub mod table;
+pub mod theorems;
 
 pub use fault::PlacementFault;
 pub use level::Level;
