@@ -10,3 +10,4 @@ pub mod Judging
 pub mod Agreeing
 pub mod Overlapping
 pub mod Listing
+pub mod Fitting

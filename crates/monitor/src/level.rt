@@ -1,5 +1,7 @@
 // How closely a thread monitors a variable.
 ghost use mathlib.Core.Path.{_≡_};
+ghost use Rattle.monitor.specs.Placement.{suits};
+ghost use Rattle.monitor.specs.Overlaps.{meets};
 ghost use Rattle.monitor.specs.Levels.{after, rank, higher, lower, worth};
 use event::Letter;
 
@@ -65,6 +67,28 @@ impl Level {
             Letter::Write => Level::Strong,
             Letter::Read => Level::Weak,
             _ => Level::None,
+        }
+    }
+
+    // Whether an access with this letter fits the level: a strong level fits writes, a weak one any access.
+    pub fn suits(self, letter: Letter) -> bool
+        ensures { λ r. ⌜ r ≡ suits self letter ⌝ }
+    {
+        match self {
+            Level::None => false,
+            Level::Weak => matches!(letter, Letter::Read | Letter::Write),
+            Level::Strong => matches!(letter, Letter::Write),
+        }
+    }
+
+    // Whether one of the two levels is strong and the other not none.
+    pub fn meets(self, other: Level) -> bool
+        ensures { λ r. ⌜ r ≡ meets self other ⌝ }
+    {
+        match self {
+            Level::None => false,
+            Level::Weak => matches!(other, Level::Strong),
+            Level::Strong => !matches!(other, Level::None),
         }
     }
 }

@@ -2,6 +2,7 @@
 pub mod fault;
 pub mod level;
 pub mod look;
+pub mod overlap;
 pub mod placement;
 pub mod table;
 pub mod theorems;

@@ -6,7 +6,7 @@ ghost use Prim.Native.Nat.{_≤_};
 ghost use lib.ListN.{length, replicate};
 ghost use Rattle.monitor.specs.declared.level.Level.the-variants.{None as none};
 ghost use Rattle.monitor.specs.Regions.{acquires-of, releases-of, after-last, before-first};
-ghost use Rattle.monitor.specs.Looks.{mayUncover, marks-of, raised, rowBare, threadBare};
+ghost use Rattle.monitor.specs.Looks.{mayUncover, span-from, span-to, marks-of, raised, rowBare, threadBare};
 use crate::level::Level;
 use crate::table::get;
 use event::Counts;
@@ -62,6 +62,18 @@ fn before_first_acquire(events: &[Event], thread: u8) -> usize
     events.len()
 }
 
+// The indices, from the first to before the second, at which an access of the thread has the moment in its region.
+pub(crate) fn span(events: &[Event], moment: usize, thread: u8) -> (usize, usize)
+    requires { ⌜ moment ≤ length (now events) ⌝ }
+    ensures from { λ r. ⌜ r .0 ≡ span-from (now (events .entry)) thread moment ⌝ }
+    ensures to { λ r. ⌜ r .1 ≡ span-to (now (events .entry)) thread moment ⌝ }
+    ensures within { λ r. ⌜ (r .0 ≤ r .1) × (r .1 ≤ length (now (events .entry))) ⌝ }
+{
+    let from = after_last_release(&events[0..moment], thread);
+    let to = moment + before_first_acquire(&events[moment..events.len()], thread);
+    (from, to)
+}
+
 // Raises the mark of a variable to a level.
 fn raise(marks: &mut [Level], variable: u16, level: Level)
     ensures { λ _. ⌜ now (marks .exit) ≡ raised (now (marks .entry)) variable level ⌝ }
@@ -104,8 +116,7 @@ fn is_bare(counts: Counts, events: &[Event], moment: usize, thread: u8, levels: 
     requires { ⌜ moment ≤ length (now events) ⌝ }
     ensures { λ r. ⌜ r ≡ threadBare counts (now (events .entry)) moment thread (now (levels .entry)) ⌝ }
 {
-    let from = after_last_release(&events[0..moment], thread);
-    let to = moment + before_first_acquire(&events[moment..events.len()], thread);
+    let (from, to) = span(events, moment, thread);
     let mut marks = [Level::None; 256];
     mark_all(&mut marks, &events[from..to], thread);
     is_row_bare(counts, levels, thread, &marks)
