@@ -66,19 +66,19 @@ module _ (p : Event) where
 
 module _ (L : List Event) (up : Rising L) (k : ℕ) (le : k ≤ length L) where
   -- an event is among the first k exactly where its index is below k, since it has one index
-  front-in : (j : ℕ) → j < k → getD L j blank ∈ take k L
+  pub front-in : (j : ℕ) → j < k → getD L j blank ∈ take k L
   front-in j lt =
       let here : j < length (take k L) = omega (arith, length-take k L) in
       Memᴰ·cast (sym (getD-take k L j blank lt)) (at-in (take k L) j blank here)
 
-  front-at : (j : ℕ) → j < length L → getD L j blank ∈ take k L → j < k
+  pub front-at : (j : ℕ) → j < length L → getD L j blank ∈ take k L → j < k
   front-at j lj m =
       let h = in-at (take k L) blank m in
       let lt : h .0 < k = omega (arith, h .1, length-take k L) in
       let same = index-once L up (h .0) j blank (omega (arith, h .1, length-take k L)) lj (sym (getD-take k L (h .0) blank lt) ∙ h .2) in
       omega arith
 
-  back-at : (j : ℕ) → j < length L → getD L j blank ∈ drop k L → k ≤ j
+  pub back-at : (j : ℕ) → j < length L → getD L j blank ∈ drop k L → k ≤ j
   back-at j lj m =
       let h = in-at (drop k L) blank m in
       let same = index-once L up (k + h .0) j blank (omega (arith, h .1, length-drop k L)) lj (sym (getD-drop k L (h .0) blank) ∙ h .2) in

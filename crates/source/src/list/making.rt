@@ -62,6 +62,12 @@ impl<'a> EventList<'a> {
         }
     }
 
+    pub fn as_slice(&self) -> &[Event]
+        ensures { λ r. ⌜ now r ≡ listed (now (self .entry)) ⌝ }
+    {
+        &self.table[0..self.len]
+    }
+
     // Appends the event, unless it is refused: then nothing changes.
     // It is taken exactly if the list with it is sound and there is room.
     pub fn push(&mut self, e: Event) -> Result<(), CallerFault>

@@ -1,0 +1,13 @@
+pub mod Searching
+pub mod Leveling
+pub mod Bounding
+pub mod Spans
+pub mod Marking
+pub mod Covering
+pub mod Tabling
+pub mod Checking
+pub mod Judging
+pub mod Agreeing
+pub mod Overlapping
+pub mod Listing
+pub mod Fitting
