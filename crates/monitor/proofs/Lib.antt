@@ -11,3 +11,4 @@ pub mod Agreeing
 pub mod Overlapping
 pub mod Listing
 pub mod Fitting
+pub mod Reporting

@@ -146,6 +146,9 @@ module _ (c : Counts) where
         ∙ set-getD (tabled c L xs) here none
         ∙ ap (λ l. l ++ drop (size c) xs) (grid-calm calm)
 
+    pub tabled-calm : monitors (e .letter) ≡ false → (xs : List Level) → tabled c L xs ≡ tabled c (L ++ e ∷ []) xs
+    tabled-calm calm xs = ap (λ l. l ++ drop (size c) xs) (grid-calm calm)
+
     -- the table follows the levels
     pub tabled-step : (xs : List Level) → stepped c (tabled c L xs) e ≡ tabled c (L ++ e ∷ []) xs
     tabled-step xs = ⊎-elim (λ h. step-sets h xs) (λ h. step-calm h xs) (cases-bool (monitors (e .letter)))

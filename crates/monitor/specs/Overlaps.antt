@@ -5,6 +5,7 @@ use mathlib.Core.List.{List, [], _∷_, _++_, map}
 use Prim.Native.Nat.{ℕ, zero, suc, _<_}
 use lib.Dec.{eqb, ltb}
 use lib.ListN.{length, getD}
+use Rattle.std.specs.Options.{mapped}
 use Rattle.std.specs.Vec.{Every}
 use Rattle.std.specs.declared.option.Option.{Option}
 use Rattle.std.specs.declared.option.Option.the-variants.{Some, None}
@@ -16,6 +17,7 @@ use Rattle.monitor.specs.declared.level.Level.the-variants.{None as none, Weak
 use Rattle.monitor.specs.Levels.{rank, level-at}
 use Rattle.monitor.specs.Placement.{blank, Covered-by, held, fits, least-from}
 use Rattle.monitor.specs.Regions.{in-region}
+use Rattle.monitor.specs.Tables.{slot}
 
 abbrev pub event-at : List Event → ℕ → Event
 event-at L i = getD L i blank
@@ -125,3 +127,33 @@ overlaps c L = gathered 0 (length L) (overlaps-at c L)
 -- what is reported: the two accesses of each overlap
 abbrev pub reported : Counts → List Event → List Two
 reported c L = map (λ (o : Overlap). o .two) (overlaps c L)
+
+-- From tables of levels.
+
+-- does the level of the event's thread on its variable rise from the one table to the other?
+abbrev pub raises : Counts → Event → List Level → List Level → Bool
+raises c e xs ys = ltb (rank (getD xs (slot c (e .thread) (e .number)) none)) (rank (getD ys (slot c (e .thread) (e .number)) none))
+
+-- the lowest access itself
+abbrev pub fitting-access : List Event → ℕ → ℕ → ℕ → Level → Option Event
+fitting-access L k t v l = mapped (event-at L) (lowest-fit L k t v l)
+
+abbrev pub paired : Option Event → Option Event → Option Two
+paired None b = None
+paired (Some a) None = None
+paired (Some a) (Some b) = Some (by-place a b)
+
+-- the levels of two threads on one variable, where the threads differ and the levels meet: what is named at the moment k
+abbrev pub met-on : List Event → ℕ → ℕ → ℕ → ℕ → Level → Level → Option Two
+met-on L k t u v l m = cond (not (eqb u t) && meets l m) (paired (fitting-access L k t v l) (fitting-access L k u v m)) None
+
+-- what the event at i and the thread u name, with the levels of the moment just after the event
+abbrev pub named : Counts → List Event → ℕ → ℕ → List Level → Option Two
+named c L i u ys =
+    cond (ltb i (length L))
+    (met-on L (suc i) (event-at L i .thread) u (event-at L i .number) (getD ys (slot c (event-at L i .thread) (event-at L i .number)) none) (getD ys (slot c u (event-at L i .number)) none))
+    None
+
+abbrev pub as-overlap : ℕ → ℕ → Option Two → List Overlap
+as-overlap i u None = []
+as-overlap i u (Some w) = record { rise = i; other = u; two = w } ∷ []

@@ -1,10 +1,10 @@
 -- The theorems on monitors, as statements.
 use mathlib.Core.Path.{_≡_}
-use mathlib.Core.Bool.{true, false}
+use mathlib.Core.Bool.{true, false, cond}
 use mathlib.Core.Logic.{_⊎_, _↔_}
-use mathlib.Core.List.{List, List·Memᴰ}
+use mathlib.Core.List.{List, [], List·Memᴰ}
 use Prim.Native.Nat.{ℕ, suc, _<_, _≤_}
-use lib.ListN.{length, getD}
+use lib.ListN.{length, take}
 use Rattle.std.specs.Orderings.{Decides}
 use Rattle.std.specs.declared.option.Option.the-variants.{Some, None}
 use Rattle.event.specs.declared.counts.Counts.{Counts}
@@ -13,10 +13,12 @@ use Rattle.event.specs.Order.{Access, Race}
 use Rattle.event.specs.Thins.{Rising, Sound}
 use Rattle.order.specs.Regions.{Region}
 use Rattle.order.specs.Runs.{Two}
+use Rattle.monitor.specs.declared.level.Level.{Level}
 use Rattle.monitor.specs.Looks.{mayUncover, span-from, span-to}
-use Rattle.monitor.specs.Overlaps.{event-at, Rises, Meet, just-after, Overlap, Overlaps, In-order, overlaps}
+use Rattle.monitor.specs.Overlaps.{event-at, Rises, Meet, just-after, Overlap, Overlaps, In-order, overlap-with, overlaps, raises, named, as-overlap}
 use Rattle.monitor.specs.Placement.{Held, Covered-by, Covered, Well-placed, Lowest-uncovered, covered-by, covered, lowest}
 use Rattle.monitor.specs.Regions.{In-region}
+use Rattle.monitor.specs.Tables.{tabled}
 
 -- by index or by place, in a rising list a region has the same moments
 abbrev pub Regions-agree : Type 0
@@ -60,3 +62,9 @@ pub record Listed-overlaps (c : Counts) (L : List Event) : Type 0 where
 
 abbrev pub Overlaps-are-computed : Type 0
 Overlaps-are-computed = (c : Counts) (L : List Event) → Listed-overlaps c L
+
+-- tables that have the levels before and just after an event tell whether it is a rise, and what it and another thread name
+abbrev pub Tables-find-overlaps : Type 0
+Tables-find-overlaps =
+    (c : Counts) (L : List Event) → Sound c L → (xs : List Level) (i u : ℕ) → i < length L → u < c .threads →
+    overlap-with L i u ≡ cond (raises c (event-at L i) (tabled c (take i L) xs) (tabled c (take (suc i) L) xs)) (as-overlap i u (named c L i u (tabled c (take (suc i) L) xs))) []

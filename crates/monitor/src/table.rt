@@ -2,6 +2,7 @@
 ghost use mathlib.Core.Path.{_≡_};
 ghost use lib.ListN.{getD};
 ghost use Rattle.monitor.specs.declared.level.Level.the-variants.{None as none};
+ghost use Rattle.monitor.specs.Overlaps.{raises};
 ghost use Rattle.monitor.specs.Tables.{size, slot, cleared, stepped, room};
 use crate::level::Level;
 use event::CallerFault;
@@ -63,4 +64,15 @@ pub fn step(counts: Counts, levels: &mut [Level], e: Event)
     if i < levels.len() {
         levels[i] = levels[i].after(e.letter);
     }
+}
+
+// The same, and whether the level rises.
+pub fn step_up(counts: Counts, levels: &mut [Level], e: Event) -> bool
+    ensures levels { λ _. ⌜ now (levels .exit) ≡ stepped counts (now (levels .entry)) e ⌝ }
+    ensures rises { λ r. ⌜ r ≡ raises counts e (now (levels .entry)) (now (levels .exit)) ⌝ }
+{
+    let before = get(counts, levels, e.thread, e.number);
+    step(counts, levels, e);
+    let after = get(counts, levels, e.thread, e.number);
+    before.rank() < after.rank()
 }

@@ -1,5 +1,5 @@
 // The mathematics of monitors: each theorem is the contract of a small function.
-ghost use Rattle.monitor.specs.Theorems.{Regions-agree, Regions-are-spans, Only-some-events-uncover, Placement-is-computed, Each-overlap-is-a-race, Each-meeting-overlaps, Overlaps-are-computed};
+ghost use Rattle.monitor.specs.Theorems.{Regions-agree, Regions-are-spans, Only-some-events-uncover, Placement-is-computed, Each-overlap-is-a-race, Each-meeting-overlaps, Overlaps-are-computed, Tables-find-overlaps};
 
 pub fn regions_agree() -> u8
     ensures { λ _. ⌜ Regions-agree ⌝ }
@@ -39,6 +39,12 @@ pub fn each_meeting_overlaps() -> u8
 
 pub fn overlaps_are_computed() -> u8
     ensures { λ _. ⌜ Overlaps-are-computed ⌝ }
+{
+    0
+}
+
+pub fn tables_find_overlaps() -> u8
+    ensures { λ _. ⌜ Tables-find-overlaps ⌝ }
 {
     0
 }
