@@ -1,1 +1,5 @@
 mod Conflicts
+mod Offering
+mod Rivals
+mod Asking
+mod Asides

@@ -1,3 +1,4 @@
 pub mod Pairs
 pub mod Table
 pub mod Offers
+pub mod Reports

@@ -99,7 +99,7 @@ impl Finding {
     pub fn give_up(&mut self, dropped: &mut u64)
         ensures pair { λ _. ⌜ now (self .exit) .pair ≡ now (self .entry) .pair ⌝ }
         ensures settled { λ _. ⌜ now (self .exit) .owed ≡ false ⌝ }
-        ensures counts { λ _. ⌜ now (dropped .exit) ≡ cond (now (self .entry) .owed) (counted (now (dropped .entry)) 1) (now (dropped .entry)) ⌝ }
+        ensures counts { λ _. ⌜ now (dropped .exit) ≡ cond (now (self .entry) .owed) (counted (now (dropped .entry))) (now (dropped .entry)) ⌝ }
     {
         if self.owed {
             *dropped = dropped.saturating_add(1);

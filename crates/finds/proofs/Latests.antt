@@ -1,5 +1,5 @@
 -- The latest event of a kind is the one with the highest place.
-use mathlib.Core.Path.{_≡_, refl, sym, ap, _∙_}
+use mathlib.Core.Path.{_≡_, refl, ap, subst, _∙_}
 use mathlib.Core.Bool.{Bool, true, false, cond}
 use mathlib.Core.Logic.{⊎-elim}
 use mathlib.Core.List.{List, [], _∷_, _++_, List·Memᴰ·head, List·Memᴰ·tail, List·Memᴰ·not-nil, List·Memᴰ·cases-cons}
@@ -73,6 +73,14 @@ module _ (kind : Letter → Bool) (u v : ℕ) where
       go (none h) true p = some e (List·Memᴰ·head refl) p (λ k m q. ⊎-elim (λ s. omega (arith, same-place s)) (λ n. absurd (h k n q)) (List·Memᴰ·cases-cons m))
       go (none h) false p = none (λ k m q. ⊎-elim (λ s. both-ways (touches kind u v k) (ap (touches kind u v) s ∙ p) q) (λ n. h k n q) (List·Memᴰ·cases-cons m))
       go (some i m p h) b q = some i (List·Memᴰ·tail m) p (λ k n t. ⊎-elim (λ s. omega (arith, same-place s, after-each e T (r .0) m)) (λ j. h k j t) (List·Memᴰ·cases-cons n))
+
+  -- what is looked up is an event of the list, of the kind
+  pub looked-up : (T : List Event) → Rising T → (i : Event) → latest kind u v T ≡ Some i → (i ∈ T) × Touches i
+  looked-up T r i e = go (latest-last T r) e
+    where
+      go : {o : Option Event} → Last T o → o ≡ Some i → (i ∈ T) × Touches i
+      go (none h) s = absurd (let z : _≡_ {A = ℕ} 0 1 = cc in omega arith)
+      go (some k m t h) s = let same : k ≡ i = cc in subst (λ x. (x ∈ T) × Touches x) same (m, touches-true k t)
 
   -- one event more is the latest, if it is of the kind
   pub latest-push : (T : List Event) (e : Event) → latest kind u v (T ++ e ∷ []) ≡ cond (touches kind u v e) (Some e) (latest kind u v T)

@@ -18,7 +18,7 @@ use Rattle.order.proofs.Newest.{newest-in}
 use Rattle.std.proofs.shelf.Lists.{append-assoc}
 use Rattle.finds.specs.Latest.{is-write, is-read, latest}
 use Rattle.finds.specs.Found.{unless-known, against, against-thread, against-below, found-at, found-after}
-use Rattle.finds.proofs.Latests.{write-is, read-is, Touches, touches-true, Last, none, some, latest-last}
+use Rattle.finds.proofs.Latests.{write-is, read-is, looked-up}
 use Rattle.finds.proofs.Rivals.{Unknown, Rival, Below, known-of, unless-has, thread-has, below-has, at-has}
 
 before-append : (a : Two) (fs gs : List Two) → Before-all a fs → ((b : Two) → List·Memᴰ b gs → Sooner a b) → Before-all a (fs ++ gs)
@@ -39,21 +39,10 @@ order-unless known j (Some i) = go (ltb (i .place) known)
     go true = tt
     go false = (tt, tt)
 
--- the access that is found was looked up
-looked-up : (kind : _ → Bool) (u v : ℕ) (T : List Event) → Rising T → (i : Event) → latest kind u v T ≡ Some i → Touches kind u v i
-looked-up kind u v T r i e = go (latest-last kind u v T r) e
-  where
-    go : {o : Option Event} → Last kind u v T o → o ≡ Some i → Touches kind u v i
-    go (none h) s = absurd (let z : _≡_ {A = ℕ} 0 1 = cc in omega arith)
-    go (some k m t h) s = let same : k ≡ i = cc in subst (Touches kind u v) same (touches-true kind u v k t)
-
 module _ (T : List Event) (r : Rising T) (j : Event) where
   order-thread : (known u : ℕ) → In-order (against-thread known T j u)
   order-thread known u = go (eqb u (j .thread))
     where
-      w : Option Event
-      w = latest is-write u (j .number) T
-
       rest : (b : Bool) → In-order (cond b (unless-known known j (latest is-read u (j .number) T)) [])
       rest true = order-unless known j (latest is-read u (j .number) T)
       rest false = tt
@@ -64,8 +53,8 @@ module _ (T : List Event) (r : Rising T) (j : Event) where
 
       sooner : (a b : Two) → Unknown known j (latest is-write u (j .number) T) a → Unknown known j (latest is-read u (j .number) T) b → Sooner a b
       sooner a b x y =
-          let s = looked-up is-write u (j .number) T r (a .0) (x .access) in
-          let t = looked-up is-read u (j .number) T r (b .0) (y .access) in
+          let s = looked-up is-write u (j .number) T r (a .0) (x .access) .1 in
+          let t = looked-up is-read u (j .number) T r (b .0) (y .access) .1 in
           by-letter (x .later ∙ sym (y .later)) (s .thread ∙ sym (t .thread)) (write-is _ (s .letter)) (read-is _ (t .letter))
 
       go : (b : Bool) → In-order (cond b [] (against known j (latest is-write u (j .number) T) (latest is-read u (j .number) T)))
@@ -78,8 +67,8 @@ module _ (T : List Event) (r : Rising T) (j : Event) where
   rival-thread : (known u : ℕ) (p : Two) → Rival known T j u p → (p .0 .thread ≡ u) × (p .1 ≡ j)
   rival-thread known u p h =
       ⊎-elim
-      (λ x. (looked-up is-write u (j .number) T r (p .0) (x .access) .thread, x .later))
-      (λ x. (looked-up is-read u (j .number) T r (p .0) (x .1 .access) .thread, x .1 .later))
+      (λ x. (looked-up is-write u (j .number) T r (p .0) (x .access) .1 .thread, x .later))
+      (λ x. (looked-up is-read u (j .number) T r (p .0) (x .1 .access) .1 .thread, x .1 .later))
       (h .kind)
 
   order-below : (n : ℕ) → In-order (against-below n T j)
