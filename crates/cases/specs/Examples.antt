@@ -44,3 +44,15 @@ two-givers = trace (does 0 Fork 1 ∷ does 0 Fork 2 ∷ does 1 Begin 1 ∷ does 
 -- one write races with the reads of two threads
 abbrev pub two-readers : List Event
 two-readers = trace (does 0 Fork 1 ∷ does 0 Fork 2 ∷ does 1 Begin 1 ∷ does 2 Begin 2 ∷ does 0 Write 0 ∷ does 2 Read 0 ∷ does 1 Read 0 ∷ [])
+
+-- a strong monitor around a write meets a weak one around a read
+abbrev pub two-monitors : List Event
+two-monitors = trace (does 0 Fork 1 ∷ does 1 Begin 1 ∷ does 0 Strong 0 ∷ does 0 Write 0 ∷ does 1 Weak 0 ∷ does 1 Read 0 ∷ does 0 Stop 0 ∷ does 1 Stop 0 ∷ [])
+
+-- a strong monitor over an acquire and then a release: the regions of the two writes meet
+abbrev pub acquire-then-release : List Event
+acquire-then-release = trace (does 0 Strong 0 ∷ does 0 Write 0 ∷ does 0 Acquire 0 ∷ does 0 Release 0 ∷ does 0 Write 0 ∷ does 0 Stop 0 ∷ [])
+
+-- the same over a release and then an acquire: between them no region holds
+abbrev pub release-then-acquire : List Event
+release-then-acquire = trace (does 0 Strong 0 ∷ does 0 Write 0 ∷ does 0 Release 0 ∷ does 0 Acquire 0 ∷ does 0 Write 0 ∷ does 0 Stop 0 ∷ [])

@@ -5,7 +5,10 @@ use Prim.Native.Nat.{ℕ}
 use lib.Chars.{codes}
 use lib.Count.{ones}
 use Rattle.std.specs.declared.result.Result.the-variants.{Ok}
+use Rattle.std.specs.declared.option.Option.the-variants.{Some, None}
+use Rattle.event.specs.declared.counts.Counts.{Counts}
 use Rattle.event.specs.declared.record.Event.{Event}
+use Rattle.event.specs.Ranges.{nearest}
 use Rattle.format.specs.declared.kinds.ObjectKind.the-variants.{Mutex}
 use Rattle.format.specs.Items.{thread, object, variable}
 use Rattle.format.specs.Trace.{contents, readTrace}
@@ -15,7 +18,9 @@ use Rattle.order.specs.Stamps.{deeds, run, fresh}
 use Rattle.stamp.specs.Reaching.{union, nobody, visit}
 use Rattle.source.specs.Sampled.{sampled}
 use Rattle.finds.specs.Found.{found-all}
-use Rattle.cases.specs.Examples.{setpoint, before-the-fork, after-the-fork, two-reads, two-givers, two-readers}
+use Rattle.monitor.specs.Overlaps.{reported}
+use Rattle.monitor.specs.Placement.{lowest}
+use Rattle.cases.specs.Examples.{setpoint, before-the-fork, after-the-fork, two-reads, two-givers, two-readers, two-monitors, acquire-then-release, release-then-acquire}
 
 -- the 88 bytes of examples/setpoint.trace
 abbrev pub setpoint-file : List ℕ
@@ -28,6 +33,10 @@ places fs = map (λ p. (p .0 .place, p .1 .place)) fs
 -- how many threads have an event with a chain to the latest one of t
 abbrev pub reached : List Event → ℕ → ℕ
 reached L t = ones (run union (fresh nobody) (deeds visit L) .threads t .members)
+
+-- two threads, one object, one variable
+abbrev pub small : Counts
+small = nearest 2 1 1
 
 pub record Worked : Type 0 where
   pub the-file-is-read : readTrace setpoint-file ≡ Ok (contents (thread (codes "cyc") ∷ thread (codes "par") ∷ []) (object Mutex (codes "m") ∷ []) (variable (codes "set") ∷ []) setpoint)
@@ -42,3 +51,6 @@ pub record Worked : Type 0 where
   pub no-events-no-races : found-all 2 [] ≡ []
   pub both-givers-count : found-all 3 two-givers ≡ []
   pub each-reader-races : places (found-all 3 two-readers) ≡ (4, 5) ∷ (4, 6) ∷ []
+  pub monitors-meet : places (reported small two-monitors) ≡ (3, 5) ∷ []
+  pub the-regions-meet : lowest small acquire-then-release ≡ None
+  pub a-moment-is-bare : lowest small release-then-acquire ≡ Some 3

@@ -18,4 +18,7 @@ returns c = record {
   no-events-no-races = refl;
   both-givers-count = refl;
   each-reader-races = refl;
+  monitors-meet = refl;
+  the-regions-meet = refl;
+  a-moment-is-bare = refl;
 }
