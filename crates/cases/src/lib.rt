@@ -2,6 +2,8 @@
 #[cfg(test)]
 mod keepers;
 #[cfg(test)]
+mod monitors;
+#[cfg(test)]
 mod reader;
 mod script;
 #[cfg(test)]
