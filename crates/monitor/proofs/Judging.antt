@@ -26,7 +26,7 @@ use Rattle.monitor.specs.Placement.{Held, Covered, Well-placed, Uncovered, Low
 use Rattle.monitor.specs.Tables.{size, room, cleared, tabled}
 use Rattle.monitor.specs.Theorems.{Computed}
 use Rattle.monitor.proofs.Checking.{exposed-parts, safe-covered, covered-safe}
-use Rattle.monitor.proofs.Covering.{covered-by-iff, covered-iff}
+use Rattle.monitor.proofs.Covering.{fits-iff, in-region-iff, covered-by-iff, covered-iff}
 use Rattle.monitor.proofs.Leveling.{level-outside}
 use Rattle.monitor.proofs.Searching.{any-found, any-from, none-any, any-none, Is-least, least-is, least-some, least-none}
 use Rattle.monitor.proofs.Tabling.{tabled-none, tabled-again}
@@ -145,4 +145,11 @@ module _ (xs : List Level) {n c : Counts} {es L : List Event} {clear : List Leve
       ∙ left-cleared c L xs fits-own
 
 pub computed : (c : Counts) (L : List Event) → Sound c L → Computed c L
-computed c L sound = record { by-access = λ k t v p lt. covered-by-iff L k t v p lt; moment = covered-iff L; refused = lowest-some c L sound; accepted = lowest-no c L sound }
+computed c L sound = record {
+  fitting = fits-iff;
+  region = in-region-iff L;
+  by-access = λ k t v p lt. covered-by-iff L k t v p lt;
+  moment = covered-iff L;
+  refused = lowest-some c L sound;
+  accepted = lowest-no c L sound;
+}
