@@ -1,41 +1,34 @@
 -- The check looks only where a moment can be uncovered, and finds the lowest uncovered one.
-use mathlib.Core.Path.{_≡_, refl, sym, ap, ap₂, subst, _∙_}
-use mathlib.Core.Bool.{Bool, true, false, cond, not, _&&_, _||_}
+use mathlib.Core.Path.{_≡_, refl, sym, ap, ap₂, _∙_}
+use mathlib.Core.Bool.{Bool, true, false, not, _&&_}
 use mathlib.Core.Logic.{_⊎_, inl, inr, ⊎-elim}
-use mathlib.Core.List.{List, [], _∷_, _++_, map}
-use Prim.Native.Nat.{ℕ, zero, suc, _+_, _<_, _≤_}
+use mathlib.Core.List.{List}
+use Prim.Native.Nat.{ℕ, suc, _+_, _<_, _≤_}
 use native.Mathlib.Omega.{arith}
 use native.Mathlib.Numerals.{add-one}
 use lib.Dec.{eqb, ltb}
 use lib.ListN.{length, getD, take}
-use Rattle.std.specs.Vec.{Every}
-use Rattle.std.specs.Iters.{counting}
-use Rattle.std.specs.Options.{Cases}
-use Rattle.std.specs.declared.option.Option.{Option}
 use Rattle.std.specs.declared.option.Option.the-variants.{Some, None}
 use Rattle.std.proofs.shelf.Counted.{getD-map-counting}
 use Rattle.std.proofs.shelf.Elements.{all-getD}
 use Rattle.std.proofs.shelf.Lists.{take-more}
-use Rattle.std.proofs.shelf.Tests.{false≢true, both-ways, cases-bool, cases-eq, and-left, and-parts, or-parts, ne-eqb, eqb-true, cond-true, not-true, cases-lt}
+use Rattle.std.proofs.shelf.Tests.{both-ways, cases-bool, cases-eq, and-left, and-parts, or-parts, ne-eqb, not-true, cases-lt}
 use Rattle.event.specs.declared.counts.Counts.{Counts}
-use Rattle.event.specs.declared.letter.Letter.{Letter}
-use Rattle.event.specs.declared.letter.Letter.the-variants.{Read, Write, Acquire, Release, Fork, Join, Begin, End, Strong, Weak, Downgrade, Stop}
 use Rattle.event.specs.declared.record.Event.{Event}
 use Rattle.event.specs.Objects.{released}
-use Rattle.event.specs.Ranges.{limit}
 use Rattle.event.specs.Thins.{Placed, Sound}
 use Rattle.order.specs.Regions.{any-object}
 use Rattle.monitor.specs.declared.level.Level.{Level}
 use Rattle.monitor.specs.declared.level.Level.the-variants.{None as none}
-use Rattle.monitor.specs.Levels.{rank, level, level-at, level-from, after-event}
-use Rattle.monitor.specs.Looks.{monitors, mayUncover, span, mark, rowBare, threadBare}
-use Rattle.monitor.specs.Placement.{blank, Held, Covered-by, Covered, Well-placed, Uncovered, Lowest-uncovered, any-below, held, covered, exposed, uncovered, lowest}
+use Rattle.monitor.specs.Levels.{rank, level-at}
+use Rattle.monitor.specs.Looks.{monitors, mayUncover, span, mark, threadBare}
+use Rattle.monitor.specs.Placement.{blank, Held, Covered, any-below, held, covered, exposed, uncovered, lowest}
 use Rattle.monitor.specs.Regions.{releases-of}
-use Rattle.monitor.specs.Tables.{slot, stepped, tabled}
+use Rattle.monitor.specs.Tables.{stepped, tabled}
 use Rattle.monitor.proofs.Covering.{covered-iff, exposed-marked, held-held, held-not}
 use Rattle.monitor.proofs.Leveling.{level-next, keeps-other, keeps-thread}
-use Rattle.monitor.proofs.Marking.{suits-access, own-true, own-parts, own}
-use Rattle.monitor.proofs.Searching.{any-found, any-from, any-none, none-any, any-same, least-none, least-some}
+use Rattle.monitor.proofs.Marking.{suits-access}
+use Rattle.monitor.proofs.Searching.{any-from, any-none, none-any, any-same, least-none, least-some}
 use Rattle.monitor.proofs.Spans.{region-span, span-region, span-from-next, span-to-next}
 use Rattle.monitor.proofs.Tabling.{tabled-at, tabled-step}
 

@@ -1,30 +1,30 @@
 -- A held level is covered exactly if it is at most the mark of its variable in its thread's span of the moment.
 use mathlib.Core.Path.{_≡_, refl, sym, ap, subst, _∙_}
-use mathlib.Core.Bool.{Bool, true, false, cond, not, _&&_}
-use mathlib.Core.Logic.{_⊎_, inl, inr, ⊎-elim, _↔_}
+use mathlib.Core.Bool.{Bool, true, false, not, _&&_}
+use mathlib.Core.Logic.{_⊎_, inl, inr}
 use mathlib.Core.List.{List}
-use Prim.Native.Nat.{ℕ, suc, _+_, _-_, _<_, _≤_}
+use Prim.Native.Nat.{ℕ, _+_, _-_, _<_, _≤_}
 use native.Mathlib.Omega.{arith}
 use lib.Dec.{eqb, leb, ltb}
-use lib.ListN.{length, getD, take, drop, length-take, length-drop}
+use lib.ListN.{length, getD, drop, length-take, length-drop}
 use Rattle.std.specs.Orderings.{Decides}
 use Rattle.std.proofs.shelf.Lists.{getD-take, getD-drop}
-use Rattle.std.proofs.shelf.Tests.{and-parts, and-from, eqb-true, eq-eqb, leb-true, le-leb, lt-ltb, le-ltb, ltb-true, ltb-false, false≢true, both-ways, cases-lt, cases-bool, or-parts}
+use Rattle.std.proofs.shelf.Tests.{and-parts, and-from, eqb-true, eq-eqb, leb-true, le-leb, lt-ltb, le-ltb, false≢true, both-ways, cases-lt}
 use Rattle.event.specs.declared.letter.Letter.{Letter}
 use Rattle.event.specs.declared.letter.Letter.the-variants.{Read, Write, Acquire, Release, Fork, Join, Begin, End, Strong, Weak, Downgrade, Stop}
 use Rattle.event.specs.declared.record.Event.{Event}
-use Rattle.event.specs.Order.{Access, reads, writes as writing}
+use Rattle.event.specs.Order.{reads, writes as writing}
 use Rattle.event.specs.Thins.{accesses}
 use Rattle.event.proofs.Thinning.{access-true}
 use Rattle.monitor.specs.declared.level.Level.{Level}
 use Rattle.monitor.specs.declared.level.Level.the-variants.{None as none, Weak as weak, Strong as strong}
 use Rattle.monitor.specs.Levels.{rank, worth, level-at}
 use Rattle.monitor.specs.Looks.{mark, span, span-from, span-to}
-use Rattle.monitor.specs.Placement.{blank, Suits, strongly, weakly, Fits, Held, Covered-by, Covered, suits, writes, held, fits, covered-by, covered, exposed}
+use Rattle.monitor.specs.Placement.{blank, Suits, strongly, weakly, Fits, Covered-by, Covered, suits, writes, held, fits, covered-by, covered, exposed}
 use Rattle.monitor.specs.Regions.{In-region, in-region, opening, closing}
-use Rattle.monitor.proofs.Marking.{own, Worth, marked, unmarked, suits-worth, worth-suits, suits-access, own-true, own-parts}
+use Rattle.monitor.proofs.Marking.{own, marked, unmarked, suits-worth, worth-suits, suits-access, own-true, own-parts}
 use Rattle.monitor.proofs.Searching.{any-found, any-from}
-use Rattle.monitor.proofs.Spans.{region-span, span-region, span-to-within, span-from-within}
+use Rattle.monitor.proofs.Spans.{region-span, span-region, span-to-within}
 
 -- ---- the computed tests tell the truth
 

@@ -1,13 +1,12 @@
 -- The lowest fitting access is the first one of the span that fits.
-use mathlib.Core.Path.{_≡_, refl, sym}
+use mathlib.Core.Path.{_≡_, refl}
 use mathlib.Core.Bool.{Bool, true, false, _&&_}
-use mathlib.Core.Logic.{⊎-elim}
 use mathlib.Core.List.{List}
 use Prim.Native.Nat.{ℕ, suc, _<_, _≤_}
 use native.Mathlib.Omega.{arith}
 use lib.ListN.{length, drop, length-drop}
 use Rattle.std.specs.declared.option.Option.the-variants.{Some, None}
-use Rattle.std.proofs.shelf.Tests.{both-ways, and-from, and-parts, cases-lt}
+use Rattle.std.proofs.shelf.Tests.{both-ways, and-from, and-parts}
 use Rattle.event.specs.declared.record.Event.{Event}
 use Rattle.monitor.specs.declared.level.Level.{Level}
 use Rattle.monitor.specs.Looks.{span-from, span-to}

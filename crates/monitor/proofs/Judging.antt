@@ -1,13 +1,12 @@
 -- The lowest uncovered moment is the lowest, and where there is none the placement is right.
 use mathlib.Core.Path.{_≡_, refl, sym, ap, ap₂, subst, _∙_}
 use mathlib.Core.Bool.{Bool, true, false, cond}
-use mathlib.Core.Logic.{_⊎_, inl, inr, ⊎-elim, _↔_}
+use mathlib.Core.Logic.{_⊎_, ⊎-elim, _↔_}
 use mathlib.Core.List.{List, []}
 use Prim.Native.Nat.{ℕ, suc, _<_, _≤_}
 use native.Mathlib.Omega.{arith}
 use lib.Dec.{ltb}
 use lib.ListN.{length, take}
-use Rattle.std.specs.Vec.{Every}
 use Rattle.std.specs.declared.option.Option.{Option}
 use Rattle.std.specs.declared.option.Option.the-variants.{Some, None}
 use Rattle.std.specs.declared.result.Result.{Result}
@@ -21,14 +20,14 @@ use Rattle.event.specs.declared.record.Event.{Event}
 use Rattle.event.specs.Thins.{Placed, Sound}
 use Rattle.monitor.specs.declared.fault.PlacementFault.the-variants.{Caller}
 use Rattle.monitor.specs.declared.level.Level.{Level}
-use Rattle.monitor.specs.Checks.{refusing, checked, up-to, reached, left, Judged}
+use Rattle.monitor.specs.Checks.{refusing, checked, reached, left, Judged}
 use Rattle.monitor.specs.Placement.{Held, Covered, Well-placed, Uncovered, Lowest-uncovered, any-below, exposed, uncovered, lowest}
 use Rattle.monitor.specs.Tables.{size, room, cleared, tabled}
 use Rattle.monitor.specs.Theorems.{Computed}
 use Rattle.monitor.proofs.Checking.{exposed-parts, safe-covered, covered-safe}
-use Rattle.monitor.proofs.Covering.{covered-by-iff, covered-iff}
+use Rattle.monitor.proofs.Covering.{fits-iff, in-region-iff, covered-by-iff, covered-iff}
 use Rattle.monitor.proofs.Leveling.{level-outside}
-use Rattle.monitor.proofs.Searching.{any-found, any-from, none-any, any-none, Is-least, least-is, least-some, least-none}
+use Rattle.monitor.proofs.Searching.{any-found, none-any, any-none, Is-least, least-is, least-some, least-none}
 use Rattle.monitor.proofs.Tabling.{tabled-none, tabled-again}
 
 module _ (c : Counts) (L : List Event) (sound : Sound c L) where
@@ -145,4 +144,11 @@ module _ (xs : List Level) {n c : Counts} {es L : List Event} {clear : List Leve
       ∙ left-cleared c L xs fits-own
 
 pub computed : (c : Counts) (L : List Event) → Sound c L → Computed c L
-computed c L sound = record { by-access = λ k t v p lt. covered-by-iff L k t v p lt; moment = covered-iff L; refused = lowest-some c L sound; accepted = lowest-no c L sound }
+computed c L sound = record {
+  fitting = fits-iff;
+  region = in-region-iff L;
+  by-access = λ k t v p lt. covered-by-iff L k t v p lt;
+  moment = covered-iff L;
+  refused = lowest-some c L sound;
+  accepted = lowest-no c L sound;
+}

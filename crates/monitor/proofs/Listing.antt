@@ -1,24 +1,23 @@
 -- The computed list of overlaps has every overlap once, and nothing else, in order.
 use mathlib.Core.Path.{_≡_, refl, sym, ap, ap₂, subst, _∙_}
 use mathlib.Core.Bool.{Bool, true, false, cond, not, _&&_}
-use mathlib.Core.Logic.{_⊎_, inl, inr, ⊎-elim, _↔_}
-use mathlib.Core.List.{List, [], _∷_, _++_, List·Memᴰ, List·Memᴰ·head, List·Memᴰ·tail, List·Memᴰ·not-nil, List·Memᴰ·cases-cons, List·Memᴰ·append-cases, List·Memᴰ·eq-of-singleton, Memᴰ·append-left, Memᴰ·append-right}
+use mathlib.Core.Logic.{_⊎_, ⊎-elim}
+use mathlib.Core.List.{List, [], _∷_, _++_, List·Memᴰ, List·Memᴰ·head, List·Memᴰ·tail, List·Memᴰ·not-nil, List·Memᴰ·append-cases, List·Memᴰ·eq-of-singleton, Memᴰ·append-left, Memᴰ·append-right}
 use Prim.Native.Nat.{ℕ, zero, suc, _+_, _<_, _≤_}
 use native.Mathlib.Omega.{arith}
-use lib.Dec.{eqb, ltb}
+use lib.Dec.{eqb}
 use lib.ListN.{length}
 use Rattle.std.specs.Vec.{Every}
 use Rattle.std.specs.declared.option.Option.{Option}
 use Rattle.std.specs.declared.option.Option.the-variants.{Some, None}
+use Rattle.std.proofs.shelf.Lists.{append-nil, append-assoc}
 use Rattle.std.proofs.shelf.Elements.{all-append}
-use Rattle.std.proofs.shelf.Tests.{false≢true, both-ways, and-from, and-parts, not-true, not-from-false, ltb-true, lt-ltb, eqb-true, eq-eqb, eqb-false, ne-eqb, cases-eq, cond-true}
+use Rattle.std.proofs.shelf.Tests.{false≢true, and-from, and-parts, not-true, not-from-false, ltb-true, lt-ltb, eqb-false, ne-eqb, cases-eq, cond-true}
 use Rattle.event.specs.declared.counts.Counts.{Counts}
 use Rattle.event.specs.declared.record.Event.{Event}
 use Rattle.monitor.specs.declared.level.Level.{Level}
 use Rattle.monitor.specs.declared.level.Level.the-variants.{None as none, Weak as weak, Strong as strong}
-use Rattle.monitor.specs.Levels.{rank}
-use Rattle.monitor.specs.Overlaps.{event-at, before, just-after, Rises, Meet, first-strong, second-strong, Lowest-fitting, by-place, Overlap, Overlaps, Sooner, by-rise, by-other, In-order, rises, is-strong, meets, lowest-fitting, on-both, met, overlap-with, gathered, overlaps-at, overlaps}
-use Rattle.monitor.specs.Placement.{held}
+use Rattle.monitor.specs.Overlaps.{event-at, just-after, Rises, Meet, first-strong, second-strong, by-place, Overlap, Overlaps, Sooner, by-rise, by-other, In-order, rises, is-strong, meets, lowest-fitting, on-both, met, overlap-with, gathered, overlaps-at, overlaps}
 use Rattle.monitor.specs.Theorems.{Listed-overlaps}
 use Rattle.monitor.proofs.Covering.{held-held, held-not}
 use Rattle.monitor.proofs.Overlapping.{lowest-is, lowest-once}
@@ -62,6 +61,16 @@ module _ {X : Type 0} (f : ℕ → List X) where
       (λ k. (i, omega arith, omega arith, k))
       (λ k. let r = in-gathered (suc i) n k in (r .0, omega (arith, r .1), omega (arith, r .2), r .3))
       (List·Memᴰ·append-cases (f i) m)
+
+  -- one list more, as a loop gathers them
+  pub gathered-more : (i n : ℕ) → gathered i (n + 1) f ≡ gathered i n f ++ f (i + n)
+  gathered-more i zero = let z : i + 0 ≡ i = omega arith in append-nil (f i) ∙ ap f (sym z)
+  gathered-more i (suc n) =
+      let s : suc i + n ≡ i + suc n = omega arith in
+      let t : suc n + 1 ≡ suc (n + 1) = omega arith in
+      ap (λ k. gathered i k f) t
+      ∙ ap (λ xs. f i ++ xs) (gathered-more (suc i) n ∙ ap (λ k. gathered (suc i) n f ++ f k) s)
+      ∙ sym (append-assoc (f i) (gathered (suc i) n f) (f (i + suc n)))
 
 every-in : {X : Type 0} (P : X → Type 0) (xs : List X) → ((x : X) → List·Memᴰ x xs → P x) → Every P xs
 every-in P [] h = tt

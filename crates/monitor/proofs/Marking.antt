@@ -1,6 +1,6 @@
 -- A mark is the highest level that an access among some events fits.
 use mathlib.Core.Path.{_≡_, refl, sym, ap, subst, _∙_}
-use mathlib.Core.Bool.{Bool, true, false, cond, _&&_}
+use mathlib.Core.Bool.{Bool, true, cond, _&&_}
 use mathlib.Core.Logic.{_⊎_, inl, inr, ⊎-elim}
 use mathlib.Core.List.{List, [], _∷_, _++_}
 use Prim.Native.Nat.{ℕ, zero, suc, _+_, _<_, _≤_}
@@ -9,7 +9,7 @@ use lib.Dec.{eqb, ltb}
 use lib.ListN.{length, getD, replicate, length-set}
 use Rattle.std.proofs.shelf.Counted.{length-map-counting, getD-map-counting, fill-by-all}
 use Rattle.std.proofs.shelf.Lists.{getD-set-same, getD-set-other}
-use Rattle.std.proofs.shelf.Tests.{cond-both, cond-true, cond-false, and-left, and-right, ne-eqb, cases-eq, and-parts, and-from, eqb-true, eq-eqb, ltb-true, ltb-false, cases-lt}
+use Rattle.std.proofs.shelf.Tests.{cond-both, cond-true, cond-false, and-left, and-right, ne-eqb, cases-eq, and-parts, and-from, eqb-true, eq-eqb, ltb-true, ltb-false}
 use Rattle.event.specs.declared.letter.Letter.{Letter}
 use Rattle.event.specs.declared.letter.Letter.the-variants.{Read, Write, Acquire, Release, Fork, Join, Begin, End, Strong, Weak, Downgrade, Stop}
 use Rattle.event.specs.declared.record.Event.{Event}
@@ -18,7 +18,7 @@ use Rattle.monitor.specs.declared.level.Level.{Level}
 use Rattle.monitor.specs.declared.level.Level.the-variants.{None as none, Weak as weak, Strong as strong}
 use Rattle.monitor.specs.Levels.{rank, higher, worth}
 use Rattle.monitor.specs.Looks.{mark-from, mark, marks-of, raised}
-use Rattle.monitor.specs.Placement.{blank, Suits, strongly, weakly, Fits}
+use Rattle.monitor.specs.Placement.{blank, Suits, strongly, weakly}
 
 higher-left : (l m : Level) → rank l ≤ rank (higher l m)
 higher-left l m = cond-both (ltb (rank l) (rank m)) m l (λ x. rank l ≤ rank x) (λ e. let lt = ltb-true (rank l) (rank m) e in omega arith) (λ _. omega arith)

@@ -1,31 +1,29 @@
 -- Overlaps are races: the regions of the two accesses share the moment just after the rise.
-use mathlib.Core.Path.{_≡_, refl, sym, ap, subst, subst₂, _∙_}
-use mathlib.Core.Bool.{Bool, true, false, cond, not, _&&_}
-use mathlib.Core.Logic.{_⊎_, inl, inr, ⊎-elim, _↔_}
+use mathlib.Core.Path.{_≡_, refl, sym, ap, subst, _∙_}
+use mathlib.Core.Bool.{true}
+use mathlib.Core.Logic.{_⊎_, ⊎-elim}
 use mathlib.Core.List.{List}
-use Prim.Native.Nat.{ℕ, suc, _+_, _<_, _≤_}
+use Prim.Native.Nat.{ℕ, suc, _<_, _≤_}
 use native.Mathlib.Omega.{arith}
-use lib.Dec.{eqb, ltb}
-use lib.ListN.{length, getD}
-use Rattle.std.specs.Orderings.{Decides}
+use lib.Dec.{ltb}
+use lib.ListN.{length}
 use Rattle.std.specs.declared.option.Option.{Option}
 use Rattle.std.specs.declared.option.Option.the-variants.{Some, None}
 use Rattle.std.proofs.shelf.Tests.{both-ways, cond-both, ltb-true, ltb-false, cases-order}
 use Rattle.event.specs.declared.counts.Counts.{Counts}
-use Rattle.event.specs.declared.letter.Letter.{Letter}
-use Rattle.event.specs.declared.letter.Letter.the-variants.{Read, Write}
+use Rattle.event.specs.declared.letter.Letter.the-variants.{Read}
 use Rattle.event.specs.declared.record.Event.{Event}
-use Rattle.event.specs.Order.{Access, Conflict, Race}
-use Rattle.event.specs.Thins.{Rising, accesses}
+use Rattle.event.specs.Order.{Conflict, Race}
+use Rattle.event.specs.Thins.{Rising}
 use Rattle.order.specs.Regions.{Region}
 use Rattle.order.specs.Runs.{Two}
 use Rattle.order.proofs.Moments.{shared-moment}
 use Rattle.order.proofs.Places.{at-in, rising-at}
 use Rattle.monitor.specs.declared.level.Level.{Level}
-use Rattle.monitor.specs.declared.level.Level.the-variants.{None as none, Weak as weak, Strong as strong}
+use Rattle.monitor.specs.declared.level.Level.the-variants.{None as none, Strong as strong}
 use Rattle.monitor.specs.Levels.{rank, level-at}
 use Rattle.monitor.specs.Overlaps.{event-at, just-after, Rises, Meet, first-strong, second-strong, Lowest-fitting, by-place, Overlap, Overlaps, lowest-fitting}
-use Rattle.monitor.specs.Placement.{blank, Suits, strongly, weakly, Held, Covered-by, Covered, Well-placed, writes, covered-by}
+use Rattle.monitor.specs.Placement.{blank, Suits, strongly, weakly, Covered-by, Covered, Well-placed, writes, covered-by}
 use Rattle.monitor.proofs.Agreeing.{regions-agree}
 use Rattle.monitor.proofs.Covering.{covered-by-iff}
 use Rattle.monitor.proofs.Marking.{suits-access}

@@ -2,7 +2,7 @@
 use mathlib.Core.Path.{_≡_, refl, sym, ap, ap₂, subst, _∙_}
 use mathlib.Core.Bool.{Bool, true, false, cond, not, _&&_}
 use mathlib.Core.Logic.{⊎-elim}
-use mathlib.Core.List.{List, [], _∷_}
+use mathlib.Core.List.{List, []}
 use Prim.Native.Nat.{ℕ, suc, _<_}
 use native.Mathlib.Omega.{arith}
 use lib.Dec.{eqb, ltb}
@@ -19,7 +19,7 @@ use Rattle.monitor.specs.declared.level.Level.{Level}
 use Rattle.monitor.specs.declared.level.Level.the-variants.{None as none}
 use Rattle.monitor.specs.Levels.{rank, level-at}
 use Rattle.monitor.specs.Looks.{monitors}
-use Rattle.monitor.specs.Overlaps.{event-at, before, just-after, Overlap, rises, meets, lowest-fit, lowest-fitting, on-both, met, overlap-with, raises, paired, met-on, named, as-overlap}
+use Rattle.monitor.specs.Overlaps.{event-at, before, just-after, rises, meets, lowest-fitting, on-both, overlap-with, raises, paired, met-on, named, as-overlap}
 use Rattle.monitor.specs.Placement.{blank}
 use Rattle.monitor.specs.Tables.{slot, tabled}
 use Rattle.monitor.proofs.Leveling.{monitors-limit, level-next, keeps-other, take-next}

@@ -6,7 +6,7 @@ use Prim.Native.Nat.{ℕ, zero, suc, _+_, _<_, _≤_}
 use native.Mathlib.Omega.{arith}
 use Rattle.std.specs.declared.option.Option.{Option}
 use Rattle.std.specs.declared.option.Option.the-variants.{Some, None}
-use Rattle.std.proofs.shelf.Tests.{false≢true, both-ways, or-cases, or-left, or-right, or-parts, cases-eq, cond-both}
+use Rattle.std.proofs.shelf.Tests.{false≢true, both-ways, or-cases, or-left, or-right, cases-eq, cond-both}
 use Rattle.monitor.specs.Placement.{any-below, least-from}
 
 pub any-found : (n : ℕ) (test : ℕ → Bool) → any-below n test ≡ true → (i : ℕ) × (i < n) × (test i ≡ true)

@@ -1,25 +1,24 @@
 -- An access has a moment in its region exactly if no release of its thread stands between the access and the moment, and no acquire of it
 -- between the moment and the access: exactly if the access is in the thread's span of that moment.
-use mathlib.Core.Path.{_≡_, refl, sym, ap, subst, _∙_}
-use mathlib.Core.Bool.{Bool, true, false, cond, _&&_}
-use mathlib.Core.Logic.{_⊎_, inl, inr, ⊎-elim}
-use mathlib.Core.List.{List, [], _∷_, _++_}
+use mathlib.Core.Path.{_≡_, sym, ap, subst, _∙_}
+use mathlib.Core.Bool.{Bool, true, false, cond}
+use mathlib.Core.Logic.{_⊎_, ⊎-elim}
+use mathlib.Core.List.{List}
 use Prim.Native.Nat.{ℕ, suc, _+_, _-_, _<_, _≤_}
 use native.Mathlib.Omega.{arith}
 use lib.Dec.{eqb}
 use lib.ListN.{length, getD, take, drop, length-take, length-drop}
 use lib.Seq.{drop-cons}
-use Rattle.std.proofs.shelf.Lists.{getD-take, getD-drop, length-take-le}
+use Rattle.std.proofs.shelf.Lists.{getD-take, getD-drop}
 use Rattle.std.proofs.shelf.Tests.{false≢true, and-parts, cases-order, cases-lt, cond-false}
 use Rattle.event.specs.declared.letter.Letter.{Letter}
-use Rattle.event.specs.declared.letter.Letter.the-variants.{Read, Write}
 use Rattle.event.specs.declared.record.Event.{Event}
 use Rattle.event.specs.Objects.{released, acquired, released-by, acquired-by}
 use Rattle.event.specs.Order.{Access, reads, writes}
 use Rattle.order.specs.Regions.{any-object}
 use Rattle.monitor.specs.Looks.{span-from, span-to}
 use Rattle.monitor.specs.Placement.{blank}
-use Rattle.monitor.specs.Regions.{acquires-of, releases-of, before-first, after-last, opening, closing, In-region}
+use Rattle.monitor.specs.Regions.{acquires-of, releases-of, before-first, after-last, In-region}
 use Rattle.monitor.proofs.Bounding.{after-last-above, after-last-below, after-last-push, before-first-above, before-first-below, before-first-within, after-last-within}
 use Rattle.monitor.proofs.Leveling.{take-next}
 

@@ -1,27 +1,22 @@
 -- A table that has the levels after some events, and one event more.
 use mathlib.Core.Path.{_≡_, refl, sym, ap, ap₂, subst, _∙_}
-use mathlib.Core.Bool.{Bool, true, false, cond, _&&_}
-use mathlib.Core.Logic.{_⊎_, inl, inr, ⊎-elim}
-use mathlib.Core.List.{List, [], _∷_, _++_, map}
+use mathlib.Core.Bool.{Bool, true, false, cond}
+use mathlib.Core.Logic.{_⊎_, ⊎-elim}
+use mathlib.Core.List.{List, [], _∷_, _++_}
 use Prim.Native.Nat.{ℕ, zero, suc, _+_, _*_, _/_, _%_, _<_, _≤_, min}
 use native.Mathlib.Omega.{arith}
 use native.Mathlib.Nat.{mul-comm}
-use lib.Dec.{eqb}
 use lib.ListN.{length, getD, set, drop, replicate, length-append, length-drop, length-set, length-replicate}
-use Rattle.std.specs.Iters.{counting}
 use Rattle.std.proofs.shelf.Bits.{mul-add-lt, div-mul-add, mod-mul-add, div-add-mod'}
 use Rattle.std.proofs.shelf.Counted.{length-map-counting, getD-map-counting, fill-by-all}
 use Rattle.std.proofs.shelf.Lists.{getD-append-left, getD-set-same, getD-set-other, getD-replicate, set-append-left, set-getD, drop-at, drop-all}
-use Rattle.std.proofs.shelf.Tests.{false≢true, cases-bool, cases-eq, cases-lt, and-parts, eqb-true, cond-true, cond-false, both-ways}
+use Rattle.std.proofs.shelf.Tests.{cases-bool, cases-eq, cases-lt, cond-true}
 use Rattle.event.specs.declared.counts.Counts.{Counts}
-use Rattle.event.specs.declared.letter.Letter.{Letter}
-use Rattle.event.specs.declared.letter.Letter.the-variants.{Read, Write, Acquire, Release, Fork, Join, Begin, End, Strong, Weak, Downgrade, Stop}
 use Rattle.event.specs.declared.record.Event.{Event}
-use Rattle.event.specs.Ranges.{limit}
 use Rattle.event.specs.Thins.{Placed}
 use Rattle.monitor.specs.declared.level.Level.{Level}
 use Rattle.monitor.specs.declared.level.Level.the-variants.{None as none}
-use Rattle.monitor.specs.Levels.{level, after, after-event}
+use Rattle.monitor.specs.Levels.{level, after}
 use Rattle.monitor.specs.Looks.{monitors}
 use Rattle.monitor.specs.Tables.{size, slot, cleared, stepped, grid, tabled}
 use Rattle.monitor.proofs.Leveling.{monitors-limit, level-push, after-other, keeps-other}

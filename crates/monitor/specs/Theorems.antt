@@ -1,6 +1,6 @@
 -- The theorems on monitors, as statements.
 use mathlib.Core.Path.{_≡_}
-use mathlib.Core.Bool.{true, false, cond}
+use mathlib.Core.Bool.{false, cond}
 use mathlib.Core.Logic.{_⊎_, _↔_}
 use mathlib.Core.List.{List, [], List·Memᴰ}
 use Prim.Native.Nat.{ℕ, suc, _<_, _≤_}
@@ -16,8 +16,8 @@ use Rattle.order.specs.Runs.{Two}
 use Rattle.monitor.specs.declared.level.Level.{Level}
 use Rattle.monitor.specs.Looks.{mayUncover, span-from, span-to}
 use Rattle.monitor.specs.Overlaps.{event-at, Rises, Meet, just-after, Overlap, Overlaps, In-order, overlap-with, overlaps, raises, named, as-overlap}
-use Rattle.monitor.specs.Placement.{Held, Covered-by, Covered, Well-placed, Lowest-uncovered, covered-by, covered, lowest}
-use Rattle.monitor.specs.Regions.{In-region}
+use Rattle.monitor.specs.Placement.{Fits, Held, Covered-by, Covered, Well-placed, Lowest-uncovered, fits, covered-by, covered, lowest}
+use Rattle.monitor.specs.Regions.{In-region, in-region}
 use Rattle.monitor.specs.Tables.{tabled}
 
 -- by index or by place, in a rising list a region has the same moments
@@ -35,8 +35,11 @@ Only-some-events-uncover =
     (L : List Event) (k t v : ℕ) → k < length L → (mayUncover (event-at L k) ≡ false) ⊎ (event-at L k .thread ≡ t → ⊥) →
     (Held L k t v → Covered L k t v) → Held L (suc k) t v → Covered L (suc k) t v
 
--- the functions that compute say which access covers a moment, which moment is the lowest uncovered one, and that there is none
+-- the functions that compute say what fits, which moments a region has, which access covers a moment, which moment is the lowest uncovered one, and
+-- whether there is none
 pub record Computed (c : Counts) (L : List Event) : Type 0 where
+  pub fitting : (e : Event) (t v : ℕ) (l : Level) → Decides (fits e t v l) (Fits e t v l)
+  pub region : (t p k : ℕ) → Decides (in-region L t p k) (In-region L t p k)
   pub by-access : (k t v p : ℕ) → p < length L → Decides (covered-by L k t v p) (Covered-by L k t v p)
   pub moment : (k t v : ℕ) → Decides (covered L k t v) (Covered L k t v)
   pub refused : (k : ℕ) → (lowest c L ≡ Some k) ↔ Lowest-uncovered L k

@@ -1,12 +1,12 @@
 use mathlib.Core.Path.{sym, ap, _∙_}
 use mathlib.Core.Logic.{⊎-elim}
-use Prim.Native.Nat.{suc, _+_, _-_, _<_}
+use Prim.Native.Nat.{_-_, _<_}
 use native.Mathlib.Omega.{arith}
 use native.Mathlib.Numerals.{add-one}
 use lib.ListN.{length, getD}
 use Rattle.std.proofs.shelf.Tests.{cases-eq}
 use Rattle.monitor.specs.Placement.{blank}
-use Rattle.monitor.specs.Regions.{releases-of, after-last}
+use Rattle.monitor.specs.Regions.{releases-of}
 use Rattle.monitor.proofs.Bounding.{after-last-is, after-last-none}
 use Rattle.monitor.proofs.look.after_last_release.Needs as need
 

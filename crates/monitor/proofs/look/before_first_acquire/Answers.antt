@@ -1,7 +1,6 @@
-use mathlib.Core.Path.{sym, ap, _∙_}
+use mathlib.Core.Path.{sym, _∙_}
 use borrow.Author.Count.{below-more}
 use native.Mathlib.Omega.{arith}
-use lib.ListN.{length}
 use Rattle.monitor.specs.Regions.{acquires-of}
 use Rattle.monitor.proofs.Bounding.{before-first-is, before-first-none}
 use Rattle.monitor.proofs.look.before_first_acquire.Needs as need

@@ -3,7 +3,6 @@ use Prim.Native.Nat.{_<_}
 use native.Mathlib.Omega.{arith}
 use lib.ListN.{length, getD, take}
 use Rattle.std.proofs.shelf.Lists.{take-more, take-all}
-use Rattle.std.proofs.shelf.Tests.{eq-eqb, ne-eqb}
 use Rattle.monitor.specs.Looks.{marks-of, raised}
 use Rattle.monitor.specs.Placement.{blank}
 use Rattle.monitor.proofs.Marking.{marks-none, marks-more, marks-skip}

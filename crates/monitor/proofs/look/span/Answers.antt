@@ -1,7 +1,7 @@
 use mathlib.Core.Path.{_≡_, ap, _∙_}
 use Prim.Native.Nat.{_+_, _-_}
 use native.Mathlib.Omega.{arith}
-use lib.ListN.{take, length-take, length-drop}
+use lib.ListN.{take}
 use Rattle.std.proofs.shelf.Lists.{take-rest}
 use Rattle.monitor.specs.Regions.{acquires-of, releases-of, after-last, before-first}
 use Rattle.monitor.proofs.Spans.{span-from-within, span-to-within}

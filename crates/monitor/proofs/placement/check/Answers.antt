@@ -2,7 +2,7 @@ use mathlib.Core.Path.{sym, ap, subst, subst₂, _∙_}
 use mathlib.Core.List.{[]}
 use native.Mathlib.Omega.{arith}
 use lib.ListN.{length}
-use Rattle.std.specs.declared.result.Result.the-variants.{Ok, Err}
+use Rattle.std.specs.declared.result.Result.the-variants.{Err}
 use Rattle.std.proofs.shelf.Results.{err-from-errBy}
 use Rattle.event.specs.declared.counts.Counts.{Counts}
 use Rattle.event.specs.Thins.{Sound}
