@@ -6,3 +6,4 @@ mod Asides
 mod Tabling
 mod Stepping
 mod Going
+mod Law

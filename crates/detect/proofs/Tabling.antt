@@ -9,7 +9,7 @@ use native.Mathlib.Decide.{decLt}
 use native.Mathlib.Omega.{arith}
 use lib.Dec.{eqb}
 use lib.ListN.{length, getD, set, drop, replicate}
-use Rattle.std.proofs.shelf.Lists.{getD-append-left, getD-replicate, getD-set-same, getD-set-other, length-set, length-append, length-replicate, length-drop, drop-set-lt}
+use Rattle.std.proofs.shelf.Lists.{getD-append-left, getD-replicate, getD-set-same, getD-set-other, length-set, length-append, length-replicate, length-drop, drop-at, drop-set-lt}
 use Rattle.std.proofs.shelf.Tests.{false≢true, both-ways, and-from, and-left, and-right, eq-eqb, ne-eqb, cases-eq}
 use Rattle.std.specs.declared.option.Option.{Option}
 use Rattle.std.specs.declared.option.Option.the-variants.{Some, None}
@@ -75,6 +75,10 @@ cleared-at n x xs k lt le =
 pub length-cleared : {X : Type 0} (n : ℕ) (x : X) (xs : List X) → length (cleared n x xs) ≡ length xs
 length-cleared n x xs =
     omega (arith, length-append (replicate (min n (length xs)) x) (drop n xs), length-replicate (min n (length xs)) x, length-drop n xs)
+
+-- clearing leaves the entries behind
+pub cleared-spare : {X : Type 0} (n : ℕ) (x : X) (xs : List X) → n ≤ length xs → drop n (cleared n x xs) ≡ drop n xs
+cleared-spare n x xs h = drop-at (replicate (min n (length xs)) x) (drop n xs) n (length-replicate (min n (length xs)) x ∙ omega arith)
 
 -- a cleared table holds what has passed: nothing
 pub holds-none : (c : Counts) (table : List (Option Event)) → size c ≤ length table → Holds c [] (cleared (size c) None table)
