@@ -1,6 +1,6 @@
 -- Offers leave the source, the keeper and the table aside.
 use mathlib.Core.Path.{_≡_, refl, sym, ap, subst, _∙_}
-use mathlib.Core.Bool.{cond}
+use mathlib.Core.Bool.{true, cond}
 use mathlib.Core.List.{List, [], _∷_, _++_}
 use Prim.Native.Nat.{ℕ, _<_}
 use lib.ListN.{getD}
@@ -8,7 +8,7 @@ use Rattle.std.specs.declared.option.Option.{Option}
 use Rattle.std.specs.declared.option.Option.the-variants.{None}
 use Rattle.event.specs.declared.letter.Letter.the-variants.{Read, Write}
 use Rattle.event.specs.declared.record.Event.{Event}
-use Rattle.event.specs.Thins.{Sound}
+use Rattle.event.specs.Thins.{access, Sound}
 use Rattle.finds.specs.Found.{against-thread}
 use Rattle.finds.specs.Latest.{is-write}
 use Rattle.order.specs.Marks.{entry}
@@ -42,16 +42,15 @@ module _ {S K O : Type 0} {o : Sinking O} where
         counts = ap (λ x. k .counts (x .now)) (a .keeper) ∙ r .counts ∙ sym counts;
         holds = subst (λ x. Holds (s .counts (is .source .now)) T (x .now)) (sym (a .latest)) (subst (λ c. Holds c T (was .latest .now)) (sym counts) (r .holds));
         sound = subst (λ c. Sound c (T ++ j ∷ [])) (sym counts) (r .sound);
-        access = r .access;
       }
 
 -- what was offered of the table's accesses of a thread is what is found against that thread
 pub thread-same : {S K O : Type 0} (s : Giving S) (k : Keeping K) (run : Run S K O) (T : List Event) (j : Event) (u known : ℕ) (w r : Option Event) →
-    Ready s k run T j → u < s .counts (run .source .now) .threads → (u ≡ j .thread → ⊥) → known ≡ entry (T ++ j ∷ []) (j .thread) u →
+    Ready s k run T j → access j ≡ true → u < s .counts (run .source .now) .threads → (u ≡ j .thread → ⊥) → known ≡ entry (T ++ j ∷ []) (j .thread) u →
     w ≡ getD (run .latest .now) (slot (s .counts (run .source .now)) Write u (j .number)) None → r ≡ getD (run .latest .now) (slot (s .counts (run .source .now)) Read u (j .number)) None →
     (unless-below known j w ++ cond (is-write (j .letter)) (unless-below known j r) []) ≡ against-thread (entry (T ++ j ∷ []) (j .thread) u) T j u
-thread-same s k run T j u known w r h lt apart e p q =
+thread-same s k run T j u known w r h a lt apart e p q =
     let c = s .counts (run .source .now) in
-    let v = own-variable c T j (h .sound) (h .access) in
-    rivals-same c T j (h .sound) (h .access) known u apart w r (p ∙ h .holds .write u (j .number) lt v) (q ∙ h .holds .read u (j .number) lt v)
+    let v = own-variable c T j (h .sound) a in
+    rivals-same c T j (h .sound) a known u apart w r (p ∙ h .holds .write u (j .number) lt v) (q ∙ h .holds .read u (j .number) lt v)
     ∙ ap (λ n. against-thread n T j u) e

@@ -3,3 +3,7 @@ mod Offering
 mod Rivals
 mod Asking
 mod Asides
+mod Tabling
+mod Stepping
+mod Going
+mod Law

@@ -57,12 +57,12 @@ unless-same known j (Some i) h = ap (λ b. cond (leb known (i .place)) (cond b t
     go true p = ap (λ d. cond d two []) (lt-leb known (i .place) (ltb-true _ _ p))
     go false p = ap (λ d. cond d two []) (le-leb known (i .place) (ltb-false _ _ p))
 
+pub own-thread : (c : Counts) (T : List Event) (j : Event) → Sound c (T ++ j ∷ []) → j .thread < c .threads
+own-thread c T j s = every-last (Placed c) T j (s .placed) .thread
+
 module _ (c : Counts) (T : List Event) (j : Event) (s : Sound c (T ++ j ∷ [])) (a : access j ≡ true) where
   pub own-variable : j .number < c .variables
   own-variable = let p = every-last (Placed c) T j (s .placed) in omega (arith, p .number, access-limit c (j .letter) a)
-
-  pub own-thread : j .thread < c .threads
-  own-thread = every-last (Placed c) T j (s .placed) .thread
 
   -- a looked-up access of another thread conflicts with j, if one of the two writes
   looked-conflicts : (kind : Letter → Bool) (u : ℕ) → (u ≡ j .thread → ⊥) → ((l : Letter) → kind l ≡ true → (is-write l || is-write (j .letter)) ≡ true) →

@@ -1,6 +1,6 @@
 -- What a run reports at an access.
 use mathlib.Core.Path.{_≡_}
-use mathlib.Core.Bool.{true, cond}
+use mathlib.Core.Bool.{cond}
 use mathlib.Core.List.{List, [], _∷_, _++_}
 use Prim.Native.Nat.{ℕ}
 use lib.Dec.{leb}
@@ -8,7 +8,7 @@ use denote.Ref.{name}
 use Rattle.std.specs.declared.option.Option.{Option}
 use Rattle.std.specs.declared.option.Option.the-variants.{Some, None}
 use Rattle.event.specs.declared.record.Event.{Event}
-use Rattle.event.specs.Thins.{access, Sound}
+use Rattle.event.specs.Thins.{Sound}
 use Rattle.order.specs.Runs.{Two}
 use Rattle.keeper.specs.declared.keeper.Keeper.{Ghosts as Keeping}
 use Rattle.sink.specs.declared.sink.Sink.{Ghosts as Sinking}
@@ -43,10 +43,9 @@ module _ {S K O : Type 0} where
     pub capacity : o .capacity (is .sink .now) ≡ o .capacity (was .sink .now)
     pub ended : is .ended ≡ was .ended
 
-  -- the run was told T and then the access j, and its table has the latest accesses among T
+  -- the run was told T and then j, and its table has the latest accesses among T
   pub record Ready (s : Giving S) (k : Keeping K) (run : Run S K O) (T : List Event) (j : Event) : Type 0 where
     pub told : k .told (run .keeper .now) (T ++ j ∷ [])
     pub counts : k .counts (run .keeper .now) ≡ s .counts (run .source .now)
     pub holds : Holds (s .counts (run .source .now)) T (run .latest .now)
     pub sound : Sound (s .counts (run .source .now)) (T ++ j ∷ [])
-    pub access : access j ≡ true

@@ -5,6 +5,8 @@ use event::fault::CallerFaultDebug;
 use event::fault::CallerFaultPartialEq;
 
 pub mod report;
+pub mod start;
+pub mod steps;
 
 // A run is not copied, and only this library makes one.
 #[derive(Drop)]

@@ -1,10 +1,12 @@
 // What a run reports at an access.
+ghost use mathlib.Core.Bool.{true};
 ghost use mathlib.Core.List.{List, [], _∷_, _++_};
 ghost use mathlib.Core.Path.{_≡_};
 ghost use Prim.Native.Nat.{_<_};
 ghost use lib.ListN.{getD};
 ghost use Rattle.std.specs.declared.option.Option.the-variants.{None};
 ghost use Rattle.event.specs.declared.record.Event.{Event};
+ghost use Rattle.event.specs.Thins.{access};
 ghost use Rattle.finds.specs.Found.{against-thread, against-below};
 ghost use Rattle.order.specs.Marks.{entry};
 ghost use Rattle.detect.specs.Reports.{if-conflicting, unless-below, Offers, Aside, Ready};
@@ -63,7 +65,7 @@ impl<'s, 'k, 'l, 'o, S: Source, K: Keeper, O: Sink> Run<'s, 'k, 'l, 'o, S, K, O>
     // Reports an access that was just told against another thread: against its latest write, and then, if the access writes, its latest read.
     fn against_thread(&mut self, thread: u8, later: Event)
         ensures aside { λ _. ⌜ Aside O·Sink (now (self .entry)) (now (self .exit)) ⌝ }
-        ensures offers { λ _. ⌜ ((T : List Event) → Ready S·Source K·Keeper (now (self .entry)) T later → thread < S·Source .counts (now (now (self .entry) .source)) .threads → Offers O·Sink (now (self .entry)) (against-thread (entry (T ++ later ∷ []) (later .thread) thread) T later thread) (now (self .exit))) ⌝ }
+        ensures offers { λ _. ⌜ ((T : List Event) → Ready S·Source K·Keeper (now (self .entry)) T later → access later ≡ true → thread < S·Source .counts (now (now (self .entry) .source)) .threads → Offers O·Sink (now (self .entry)) (against-thread (entry (T ++ later ∷ []) (later .thread) thread) T later thread) (now (self .exit))) ⌝ }
     {
         if thread == later.thread {
             return;
@@ -84,7 +86,7 @@ impl<'s, 'k, 'l, 'o, S: Source, K: Keeper, O: Sink> Run<'s, 'k, 'l, 'o, S, K, O>
     // Reports an access that was just told against each other thread in rising order.
     pub(super) fn against_all(&mut self, later: Event)
         ensures aside { λ _. ⌜ Aside O·Sink (now (self .entry)) (now (self .exit)) ⌝ }
-        ensures offers { λ _. ⌜ ((T : List Event) → Ready S·Source K·Keeper (now (self .entry)) T later → Offers O·Sink (now (self .entry)) (against-below (S·Source .counts (now (now (self .entry) .source)) .threads) T later) (now (self .exit))) ⌝ }
+        ensures offers { λ _. ⌜ ((T : List Event) → Ready S·Source K·Keeper (now (self .entry)) T later → access later ≡ true → Offers O·Sink (now (self .entry)) (against-below (S·Source .counts (now (now (self .entry) .source)) .threads) T later) (now (self .exit))) ⌝ }
     {
         let threads = (*self.source).counts().threads() as u8;
         for thread in 0..threads {

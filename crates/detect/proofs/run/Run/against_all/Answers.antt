@@ -9,7 +9,7 @@ use Rattle.detect.proofs.run.Run.against_all.Choices.{Kept}
 use Rattle.detect.proofs.run.Run.against_all.Needs as need
 
 pub loop-thread-holds : need.loop-thread-holds
-loop-thread-holds g c = (aside-none _, λ T r. offered-as (sym (below-none T (c .args .later))) offered-none)
+loop-thread-holds g c = (aside-none _, λ T r a. offered-as (sym (below-none T (c .args .later))) offered-none)
 
 pub loop-thread-again : need.loop-thread-again
 loop-thread-again g c =
@@ -18,10 +18,10 @@ loop-thread-again g c =
     let n = c .loop-thread .thread in
     let counts = ap (λ (d : Counts). d .threads) (c .counts .ensures) in (
       aside-more (inv .0) (did .aside),
-      λ T r.
+      λ T r a.
           let same = ap (λ s. g .S·Source .counts (s .now) .threads) (inv .0 .source) in
           let lt : n < g .S·Source .counts (c .loop-thread .self .source .now) .threads = omega (arith, c .loop-thread-test .taken, c .threads-threads .ensures, counts, same) in
-          offered-as (sym (below-more n T (c .args .later))) (offered-more (inv .1 T r) (inv .0 .capacity) (did .offers T (ready-aside (inv .0) r) lt)),
+          offered-as (sym (below-more n T (c .args .later))) (offered-more (inv .1 T r a) (inv .0 .capacity) (did .offers T (ready-aside (inv .0) r) a lt)),
     )
 
 pub returns : need.returns

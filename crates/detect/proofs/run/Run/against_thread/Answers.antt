@@ -26,7 +26,7 @@ returns-then-thread-later g c =
     let u = c .args .thread in
     record {
       aside = aside-none _;
-      offers = λ T r lt.
+      offers = λ T r a lt.
           let same : against-thread (entry (T ++ j ∷ []) (j .thread) u) T j u ≡ [] =
           ap (λ b. cond b [] (against (entry (T ++ j ∷ []) (j .thread) u) j (latest is-write u (j .number) T) (latest is-read u (j .number) T))) (eq-eqb _ _ (c .if-thread-later .taken)) in
           offered-as (sym same) offered-none;
@@ -35,8 +35,8 @@ returns-then-thread-later g c =
 pub returns-in-rest : need.returns-in-rest
 returns-in-rest g c = record {
   aside = aside-none _;
-  offers = λ T r lt.
-      let own = own-thread (g .S·Source .counts (c .args .self .now .source .now)) T (c .args .later) (r .sound) (r .access) in
+  offers = λ T r a lt.
+      let own = own-thread (g .S·Source .counts (c .args .self .now .source .now)) T (c .args .later) (r .sound) in
       let counts = g .K·Keeper .counts (c .args .self .now .keeper .now) in
       let same = ap (λ (n : Counts). n .threads) (r .counts) in
       let one : c .from .result < counts .threads = omega (arith, c .from .ensures, own, same) in
@@ -52,10 +52,10 @@ returns-then-is-write g c =
     let j = c .args .later in
     record {
       aside = aside-more (one .aside) (two .aside);
-      offers = λ T r lt.
+      offers = λ T r a lt.
           let known = answered (g .K·Keeper .counts (run .keeper .now)) (T ++ j ∷ []) (c .from .result) (c .from-2 .result) (j .thread) (c .args .thread) (c .in-Ok .known) (c .from .ensures) (c .from-2 .ensures) (c .in-Ok .ensures tt .answer (T ++ j ∷ []) (r .told)) in
           let read = c .latest-of-read .ensures ∙ (λ i. getD (one .aside .latest i .now) (slot (g .S·Source .counts (one .aside .source i .now)) Read (c .args .thread) (j .number)) None) in
-          let same = thread-same (g .S·Source) (g .K·Keeper) run T j (c .args .thread) (c .in-Ok .known) (c .latest-of-write .result) (c .latest-of-read .result) r lt (c .if-thread-later .left) known (c .latest-of-write .ensures) read in
+          let same = thread-same (g .S·Source) (g .K·Keeper) run T j (c .args .thread) (c .in-Ok .known) (c .latest-of-write .result) (c .latest-of-read .result) r a lt (c .if-thread-later .left) known (c .latest-of-write .ensures) read in
           let both = ap (λ b. unless-below (c .in-Ok .known) j (c .latest-of-write .result) ++ cond b (unless-below (c .in-Ok .known) j (c .latest-of-read .result)) []) (c .if-is-write .ensures tt) in
           offered-as (both ∙ same) (offered-more (one .offers) (one .aside .capacity) (two .offers));
     }
@@ -66,10 +66,10 @@ returns-else-is-write g c =
     let j = c .args .later in
     record {
       aside = c .against .ensures .aside;
-      offers = λ T r lt.
+      offers = λ T r a lt.
           let known = answered (g .K·Keeper .counts (run .keeper .now)) (T ++ j ∷ []) (c .from .result) (c .from-2 .result) (j .thread) (c .args .thread) (c .in-Ok .known) (c .from .ensures) (c .from-2 .ensures) (c .in-Ok .ensures tt .answer (T ++ j ∷ []) (r .told)) in
           let read = getD (run .latest .now) (slot (g .S·Source .counts (run .source .now)) Read (c .args .thread) (j .number)) None in
-          let same = thread-same (g .S·Source) (g .K·Keeper) run T j (c .args .thread) (c .in-Ok .known) (c .latest-of-write .result) read r lt (c .if-thread-later .left) known (c .latest-of-write .ensures) refl in
+          let same = thread-same (g .S·Source) (g .K·Keeper) run T j (c .args .thread) (c .in-Ok .known) (c .latest-of-write .result) read r a lt (c .if-thread-later .left) known (c .latest-of-write .ensures) refl in
           let none = ap (λ b. unless-below (c .in-Ok .known) j (c .latest-of-write .result) ++ cond b (unless-below (c .in-Ok .known) j read) []) (c .if-is-write .ensures tt) in
           offered-as (sym (append-nil _) ∙ none ∙ same) (c .against .ensures .offers);
     }
