@@ -8,5 +8,5 @@ use Rattle.event.specs.Faults.{Filed}
 abbrev pub refusalLine : Filed → List ℕ
 refusalLine f = codes "refused " ++ (decimal (f .number) ++ (codes " layer " ++ (decimal (f .layer) ++ (codes " place " ++ (decimal (f .place) ++ 10 ∷ [])))))
 
-abbrev pub countsLine : ℕ → ℕ → ℕ → ℕ → List ℕ
-countsLine t o v e = codes "threads " ++ (decimal t ++ (codes " objects " ++ (decimal o ++ (codes " variables " ++ (decimal v ++ (codes " events " ++ (decimal e ++ 10 ∷ [])))))))
+abbrev pub totalsLine : ℕ → ℕ → ℕ → List ℕ
+totalsLine found written dropped = codes "found " ++ (decimal found ++ (codes " written " ++ (decimal written ++ (codes " dropped " ++ (decimal dropped ++ 10 ∷ [])))))

@@ -1,9 +1,10 @@
 // What the programs print.
 pub mod answer;
 pub mod lines;
+pub mod races;
 
 pub use answer::Answer;
 pub use answer::LONGEST;
-pub use answer::summarize;
-pub use lines::counts_line;
 pub use lines::refusal_line;
+pub use lines::totals_line;
+pub use races::list_races;

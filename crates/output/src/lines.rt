@@ -3,7 +3,7 @@ ghost use mathlib.Core.Path.{_≡_};
 ghost use Rattle.std.specs.Of.String.{string-bytes};
 ghost use Rattle.std.specs.Vec.{made};
 ghost use Rattle.event.specs.Faults.{filed};
-ghost use Rattle.output.specs.Lines.{refusalLine, countsLine};
+ghost use Rattle.output.specs.Lines.{refusalLine, totalsLine};
 use std::alloc::AllocError;
 use std::alloc::Global;
 
@@ -14,18 +14,14 @@ pub fn refusal_line(heap: Global, number: u8, layer: u8, place: usize) -> Result
     format!(heap, "refused {number} layer {layer} place {place}\n")
 }
 
-// How many threads, objects, variables and events a trace has, as `threads 2 objects 1 variables 1 events 10`.
-pub fn counts_line(
+// The totals of a run, as `found 3 written 3 dropped 0`.
+pub fn totals_line(
     heap: Global,
-    threads: usize,
-    objects: usize,
-    variables: usize,
-    events: usize,
+    found: u64,
+    written: u64,
+    dropped: u64,
 ) -> Result<String, AllocError>
-    ensures { λ r. ⌜ made r (λ s. string-bytes s ≡ countsLine threads objects variables events) ⌝ }
+    ensures { λ r. ⌜ made r (λ s. string-bytes s ≡ totalsLine found written dropped) ⌝ }
 {
-    format!(
-        heap,
-        "threads {threads} objects {objects} variables {variables} events {events}\n"
-    )
+    format!(heap, "found {found} written {written} dropped {dropped}\n")
 }

@@ -1,15 +1,16 @@
-// Reads a trace file from standard input, and prints what it holds or why it is refused.
+// Reads a trace file from standard input, and prints its races or why it is refused.
 use output::LONGEST;
-use output::summarize;
+use output::list_races;
 use std::error::AnyError;
 use std::io::Read;
+use std::io::Write;
 
 fn main(rt: LibcRuntime) -> Result<(), AnyError> {
     let heap = rt.alloc();
     let mut input = Vec::new(heap);
     rt.stdin().take(LONGEST as u64 + 1).read_to_end(&mut input)?;
-    let answer = summarize(heap, &input)?;
-    rt.print(answer.text.as_str())?;
+    let answer = list_races(heap, &input)?;
+    rt.stdout().write_all(&answer.text)?;
     if answer.refused {
         return Err("refused".into());
     }
