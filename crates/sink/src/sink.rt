@@ -1,7 +1,9 @@
 // What takes findings, as many as it has room for.
 ghost use mathlib.Core.Path.{_≡_};
 ghost use Prim.Native.Nat.{ℕ, _≤_};
-ghost use Rattle.sink.specs.Taking.{Takes};
+ghost use Rattle.std.specs.Orderings.{Decides};
+ghost use Rattle.std.specs.Results.{isErr};
+ghost use Rattle.sink.specs.Taking.{Takes, taking};
 ghost use Rattle.sink.specs.declared.pair.Pair.{Pair};
 use crate::pair::Pair;
 use event::CallerFault;
@@ -31,4 +33,11 @@ pub trait Sink {
     // Refused exactly where it has taken its capacity.
     fn take(&mut self, pair: Pair) -> Result<(), CallerFault>
         ensures { λ r. ⌜ Takes capacity taken log step (now (self .entry)) (now (self .exit)) pair r ⌝ };
+}
+
+// A refusal says that the sink is full, and a full sink refuses.
+pub fn refuses_when_full<S: Sink>(sink: &S) -> u8
+    ensures { λ _. ⌜ Decides (isErr (taking (S·Sink .capacity (now (sink .entry))) (S·Sink .taken (now (sink .entry))))) (S·Sink .taken (now (sink .entry)) ≡ S·Sink .capacity (now (sink .entry))) ⌝ }
+{
+    0
 }

@@ -1,0 +1,4 @@
+pub mod Answering
+pub mod Writing
+pub mod Reading
+pub mod Repeating
