@@ -38,11 +38,11 @@ returns g c =
     let sink-name : c .end .last .self .sink .name ≡ was .sink .name = ap (λ r. r .name) (stops .sink) ∙ keeps .sink-lender in
     let sink-now : c .end .last .self .sink .now ≡ is .sink .now = ap (λ r. r .now) (stops .sink) in
     let latest-spare : drop (size (s .counts (c .args .source .now))) (c .end .last .self .latest .now) ≡ drop (size (s .counts (c .args .source .now))) latest =
-          ap (λ r. drop (size (s .counts (c .args .source .now))) (r .now)) (stops .latest)
-          ∙ subst (λ (d : Counts). drop (size d) (is .latest .now) ≡ drop (size d) (was .latest .now)) (ap (λ r. s .counts (r .now)) (lent .0)) (keeps .spare)
-          ∙ ap (λ r. drop (size (s .counts (c .args .source .now))) (r .now)) (lent .2)
-          ∙ subst (λ (d : Counts). drop (size d) (c .clear-for .last .latest) ≡ drop (size d) latest) counts
-          (ap (drop (size (c .counts-counts .result))) (cleared .cleared .cleared-table) ∙ cleared-spare (size (c .counts-counts .result)) None latest (cleared .cleared .long)) in
+    ap (λ r. drop (size (s .counts (c .args .source .now))) (r .now)) (stops .latest)
+    ∙ subst (λ (d : Counts). drop (size d) (is .latest .now) ≡ drop (size d) (was .latest .now)) (ap (λ r. s .counts (r .now)) (lent .0)) (keeps .spare)
+    ∙ ap (λ r. drop (size (s .counts (c .args .source .now))) (r .now)) (lent .2)
+    ∙ subst (λ (d : Counts). drop (size d) (c .clear-for .last .latest) ≡ drop (size d) latest) counts
+    (ap (drop (size (c .counts-counts .result))) (cleared .cleared .cleared-table) ∙ cleared-spare (size (c .counts-counts .result)) None latest (cleared .cleared .long)) in
     record {
       answer = cleared .answer ∙ ap (λ d. starting d (length latest) (k .lacks keeper d)) counts;
       ran =
