@@ -18,8 +18,8 @@ use Rattle.keeper.specs.Telling.{undeclared, unless, asking}
 use Rattle.order.specs.Marks.{entry}
 
 -- a good answer is the entry
-pub answered : (c : Counts) (es : List Event) (t u t′ u′ known : ℕ) → t ≡ t′ → u ≡ u′ → Ok known ≡ asking c es t u → known ≡ entry es t′ u′
-answered c es t u t′ u′ known p q h = go (undeclared c t u) h ∙ (λ i. entry es (p i) (q i))
+pub answered : (c : Counts) (es : List Event) (t u known : ℕ) → Ok known ≡ asking c es t u → known ≡ entry es t u
+answered c es t u known h = go (undeclared c t u) h
   where
     go : (o : Option CallerFault) → Ok known ≡ unless o (entry es t u) → known ≡ entry es t u
     go None e = cc

@@ -8,6 +8,7 @@ ghost use Rattle.std.specs.declared.option.Option.the-variants.{None};
 ghost use Rattle.event.specs.declared.record.Event.{Event};
 ghost use Rattle.event.specs.Thins.{access};
 ghost use Rattle.finds.specs.Found.{against-thread, against-below};
+ghost use Rattle.keeper.specs.Meaning.{Asks};
 ghost use Rattle.order.specs.Marks.{entry};
 ghost use Rattle.detect.specs.Reports.{if-conflicting, unless-below, Offers, Aside, Ready};
 ghost use Rattle.detect.specs.Table.{slot};
@@ -15,6 +16,7 @@ use super::Run;
 use crate::finding::Finding;
 use crate::finding::is_write;
 use crate::latest;
+use event::CallerFault;
 use event::Event;
 use event::Letter;
 use keeper::Keeper;
@@ -62,6 +64,13 @@ impl<'s, 'k, 'l, 'o, S: Source, K: Keeper, O: Sink> Run<'s, 'k, 'l, 'o, S, K, O>
         latest::look_up(self.latest, latest::slot(counts, letter, thread, variable))
     }
 
+    // How much of another thread leads to a thread's latest event, as the keeper has it.
+    fn entry_of(&self, thread: u8, other: u8) -> Result<u32, CallerFault>
+        ensures { λ r. ⌜ Asks (K·Keeper .counts) (K·Keeper .capacity) (K·Keeper .lacks) (K·Keeper .told) (now (now (self .entry) .keeper)) thread other r ⌝ }
+    {
+        self.keeper.ask(usize::from(thread), usize::from(other))
+    }
+
     // Reports an access that was just told against another thread: against its latest write, and then, if the access writes, its latest read.
     fn against_thread(&mut self, thread: u8, later: Event)
         ensures aside { λ _. ⌜ Aside O·Sink (now (self .entry)) (now (self .exit)) ⌝ }
@@ -70,9 +79,7 @@ impl<'s, 'k, 'l, 'o, S: Source, K: Keeper, O: Sink> Run<'s, 'k, 'l, 'o, S, K, O>
         if thread == later.thread {
             return;
         }
-        let asked = self.keeper
-            .ask(usize::from(later.thread), usize::from(thread));
-        let Ok(known) = asked else {
+        let Ok(known) = self.entry_of(later.thread, thread) else {
             return;
         };
         let write = self.latest_of(Letter::Write, thread, later.number);

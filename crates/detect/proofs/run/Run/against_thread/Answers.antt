@@ -1,7 +1,6 @@
 use mathlib.Core.Path.{_≡_, refl, sym, ap, _∙_}
 use mathlib.Core.Bool.{cond}
 use mathlib.Core.List.{[], _∷_, _++_}
-use Prim.Native.Nat.{_<_}
 use native.Mathlib.Omega.{arith}
 use lib.ListN.{getD}
 use Rattle.std.proofs.shelf.Lists.{append-nil}
@@ -39,9 +38,7 @@ returns-in-rest g c = record {
       let own = own-thread (g .S·Source .counts (c .args .self .now .source .now)) T (c .args .later) (r .sound) in
       let counts = g .K·Keeper .counts (c .args .self .now .keeper .now) in
       let same = ap (λ (n : Counts). n .threads) (r .counts) in
-      let one : c .from .result < counts .threads = omega (arith, c .from .ensures, own, same) in
-      let two : c .from-2 .result < counts .threads = omega (arith, c .from-2 .ensures, lt, same) in
-      absurd (none-refused counts (c .from .result) (c .from-2 .result) (c .in-rest .field-0) one two (c .in-rest .ensures tt .undeclared-only));
+      absurd (none-refused counts (c .args .later .thread) (c .args .thread) (c .in-rest .field-0) (omega (arith, own, same)) (omega (arith, lt, same)) (c .in-rest .ensures tt .undeclared-only));
 }
 
 pub returns-then-is-write : need.returns-then-is-write
@@ -53,7 +50,7 @@ returns-then-is-write g c =
     record {
       aside = aside-more (one .aside) (two .aside);
       offers = λ T r a lt.
-          let known = answered (g .K·Keeper .counts (run .keeper .now)) (T ++ j ∷ []) (c .from .result) (c .from-2 .result) (j .thread) (c .args .thread) (c .in-Ok .known) (c .from .ensures) (c .from-2 .ensures) (c .in-Ok .ensures tt .answer (T ++ j ∷ []) (r .told)) in
+          let known = answered (g .K·Keeper .counts (run .keeper .now)) (T ++ j ∷ []) (j .thread) (c .args .thread) (c .in-Ok .known) (c .in-Ok .ensures tt .answer (T ++ j ∷ []) (r .told)) in
           let read = c .latest-of-read .ensures ∙ (λ i. getD (one .aside .latest i .now) (slot (g .S·Source .counts (one .aside .source i .now)) Read (c .args .thread) (j .number)) None) in
           let same = thread-same (g .S·Source) (g .K·Keeper) run T j (c .args .thread) (c .in-Ok .known) (c .latest-of-write .result) (c .latest-of-read .result) r a lt (c .if-thread-later .left) known (c .latest-of-write .ensures) read in
           let both = ap (λ b. unless-below (c .in-Ok .known) j (c .latest-of-write .result) ++ cond b (unless-below (c .in-Ok .known) j (c .latest-of-read .result)) []) (c .if-is-write .ensures tt) in
@@ -67,7 +64,7 @@ returns-else-is-write g c =
     record {
       aside = c .against .ensures .aside;
       offers = λ T r a lt.
-          let known = answered (g .K·Keeper .counts (run .keeper .now)) (T ++ j ∷ []) (c .from .result) (c .from-2 .result) (j .thread) (c .args .thread) (c .in-Ok .known) (c .from .ensures) (c .from-2 .ensures) (c .in-Ok .ensures tt .answer (T ++ j ∷ []) (r .told)) in
+          let known = answered (g .K·Keeper .counts (run .keeper .now)) (T ++ j ∷ []) (j .thread) (c .args .thread) (c .in-Ok .known) (c .in-Ok .ensures tt .answer (T ++ j ∷ []) (r .told)) in
           let read = getD (run .latest .now) (slot (g .S·Source .counts (run .source .now)) Read (c .args .thread) (j .number)) None in
           let same = thread-same (g .S·Source) (g .K·Keeper) run T j (c .args .thread) (c .in-Ok .known) (c .latest-of-write .result) read r a lt (c .if-thread-later .left) known (c .latest-of-write .ensures) refl in
           let none = ap (λ b. unless-below (c .in-Ok .known) j (c .latest-of-write .result) ++ cond b (unless-below (c .in-Ok .known) j read) []) (c .if-is-write .ensures tt) in
