@@ -5,6 +5,8 @@ mod keepers;
 mod monitors;
 #[cfg(test)]
 mod reader;
+#[cfg(test)]
+mod runs;
 mod script;
 #[cfg(test)]
 mod sources;
