@@ -16,7 +16,7 @@ pub fn size(counts: Counts) -> usize
 }
 
 // Where the latest access of a thread to a variable stands: its write, and right behind it its read.
-pub fn slot(counts: Counts, letter: Letter, thread: u8, variable: u16) -> usize
+pub(crate) fn slot(counts: Counts, letter: Letter, thread: u8, variable: u16) -> usize
     ensures { λ r. ⌜ r ≡ slot counts letter thread variable ⌝ }
 {
     let pair = usize::from(variable) * counts.threads() + usize::from(thread);
@@ -27,7 +27,7 @@ pub fn slot(counts: Counts, letter: Letter, thread: u8, variable: u16) -> usize
 }
 
 // Empties the first n entries.
-pub fn clear(table: &mut [Option<Event>], n: usize)
+pub(crate) fn clear(table: &mut [Option<Event>], n: usize)
     ensures { λ _. ⌜ now (table .exit) ≡ cleared n None (now (table .entry)) ⌝ }
 {
     let used = n.min(table.len());
@@ -37,7 +37,7 @@ pub fn clear(table: &mut [Option<Event>], n: usize)
 }
 
 // The access at a place of a table, none past its end.
-pub fn look_up(table: &[Option<Event>], place: usize) -> Option<Event>
+pub(crate) fn look_up(table: &[Option<Event>], place: usize) -> Option<Event>
     ensures { λ r. ⌜ r ≡ getD (now (table .entry)) place None ⌝ }
 {
     if place < table.len() {
@@ -48,7 +48,7 @@ pub fn look_up(table: &[Option<Event>], place: usize) -> Option<Event>
 }
 
 // Writes an access to a place of a table, where it has that place.
-pub fn note(table: &mut [Option<Event>], place: usize, access: Event)
+pub(crate) fn note(table: &mut [Option<Event>], place: usize, access: Event)
     ensures { λ _. ⌜ now (table .exit) ≡ set (now (table .entry)) place (Some access) ⌝ }
 {
     if place < table.len() {

@@ -18,7 +18,7 @@ use sink::Sink;
 use source::Source;
 
 // Clears a keeper, and the entries of a table that the counts use. The table is tested before the keeper is cleared, and a refusal changes nothing.
-pub fn clear_for<K: Keeper>(
+pub(crate) fn clear_for<K: Keeper>(
     counts: Counts,
     keeper: &mut K,
     latest: &mut [Option<Event>],

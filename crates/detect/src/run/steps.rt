@@ -53,7 +53,7 @@ impl<'s, 'k, 'l, 'o, S: Source, K: Keeper, O: Sink> Run<'s, 'k, 'l, 'o, S, K, O>
     }
 
     // Steps till the run ends, at most so many times.
-    pub fn go(&mut self, budget: usize)
+    pub(crate) fn go(&mut self, budget: usize)
         ensures keeps { λ _. ⌜ Keeps S·Source K·Keeper O·Sink (now (self .entry)) (now (self .exit)) ⌝ }
         ensures goes { λ _. ⌜ (Going S·Source K·Keeper (now (self .entry)) [] → now (self .entry) .ended ≡ false → Goes S·Source K·Keeper O·Sink budget (now (self .entry)) (now (self .exit))) ⌝ }
     {
