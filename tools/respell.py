@@ -17,6 +17,8 @@ ANSWERS = [f for f in glob.glob("crates/*/proofs/**/*.antt", recursive=True) if 
 SOURCES = glob.glob("crates/*/src/**/*.rt", recursive=True)
 # words of the library that were spelled otherwise when these names were made
 WORDS = {"getD": "get_or"}
+# members of a module of the library, which stand behind its name
+LIBRARY = {"not-nil"}
 # names that would fall together with another, or with a function of src/
 OTHERWISE = {
     "against-thread": "against_one",
@@ -53,7 +55,7 @@ def text(f):
 
 
 def library_names():
-    names = set()
+    names = set(LIBRARY)
     for f in LEMMAS + ANSWERS + SOURCES:
         for line in text(f).splitlines():
             m = re.match(r"\s*(?:ghost |pub )*use ([\w.'-]+)\.\{(.*)\}", line)

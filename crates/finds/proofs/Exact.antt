@@ -165,7 +165,7 @@ module _ (W past rest : List Event) (j : Event) (r : Rising ((past ++ j ∷ []) 
 module _ (n : ℕ) (W T M : List Event) (r : Rising (T ++ M)) (t : Thins W (T ++ M)) (low : (i : Event) → i ∈ T → i.thread < n) where
   -- what is found from some event on
   after_exact : (past S : List Event) → T ≡ past ++ S → (p : Two) → Memᴰ p (found_after n past S) ↔ ((p.1 ∈ S) × Finds W T p.0 p.1)
-  after_exact past [] e p = (λ m. absurd (Memᴰ.not_nil m), λ h. absurd (Memᴰ.not_nil h.0))
+  after_exact past [] e p = (λ m. absurd (Memᴰ.not-nil m), λ h. absurd (Memᴰ.not-nil h.0))
   after_exact past (j ∷ S) e p = (
     λ m.
         ⊎_elim
@@ -211,7 +211,7 @@ module _ (n : ℕ) (W T M : List Event) (r : Rising (T ++ M)) (t : Thins W (T ++
   }
 
 every_in : (P : Event → Type 0) (L : List Event) → AllByRecursion P L → (e : Event) → e ∈ L → P e
-every_in P [] h e m = absurd (Memᴰ.not_nil m)
+every_in P [] h e m = absurd (Memᴰ.not-nil m)
 every_in P (x ∷ L) h e m = ⊎_elim (λ s. subst P (sym s) h.0) (λ k. every_in P L h.1 e k) (Memᴰ.cases_cons m)
 
 pub findings_exact : (c : Counts) (W T M : List Event) → Sound c (T ++ M) → Thins W (T ++ M) → Lists W T (found_all c.threads T)

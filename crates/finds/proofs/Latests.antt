@@ -59,7 +59,7 @@ module _ (kind : Letter → Bool) (u v : ℕ) where
     some : (i : Event) → i ∈ T → touches kind u v i ≡ true → ((k : Event) → k ∈ T → touches kind u v k ≡ true → k.place ≤ i.place) → Last T (Some i)
 
   pub latest_last : (T : List Event) → Rising T → Last T (latest kind u v T)
-  latest_last [] r = none (λ k m h. Memᴰ.not_nil m)
+  latest_last [] r = none (λ k m h. Memᴰ.not-nil m)
   latest_last (e ∷ T) r = go (latest_last T r.1) (touches kind u v e) refl
     where
       go : {o : Option Event} → Last T o → (b : Bool) → touches kind u v e ≡ b → Last (e ∷ T) (or_else o (cond b (Some e) None))

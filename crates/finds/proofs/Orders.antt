@@ -42,7 +42,7 @@ module _ (T : List Event) (r : Rising T) (j : Event) where
 
       in_rest : (b : Bool) (p : Two) → Memᴰ p (cond b (unless_known known j (latest is_read u j.number T)) []) → Unknown known j (latest is_read u j.number T) p
       in_rest true p m = (unless_has known j _ p).0 m
-      in_rest false p m = absurd (Memᴰ.not_nil m)
+      in_rest false p m = absurd (Memᴰ.not-nil m)
 
       sooner : (a b : Two) → Unknown known j (latest is_write_letter u j.number T) a → Unknown known j (latest is_read u j.number T) b → Sooner a b
       sooner a b x y =
@@ -86,7 +86,7 @@ module _ (T : List Event) (r : Rising T) (j : Event) where
   later_at n p m = let x = ((at_has n T j p).0 m).1 in (rival_thread (known_of T j x.thread) x.thread p x.rival).1
 
 later_after : (n : ℕ) (past T : List Event) → Rising (past ++ T) → (p : Two) → Memᴰ p (found_after n past T) → p.1 ∈ T
-later_after n past [] r p m = absurd (Memᴰ.not_nil m)
+later_after n past [] r p m = absurd (Memᴰ.not-nil m)
 later_after n past (j ∷ T) r p m =
     ⊎_elim
     (λ a. Memᴰ.head (later_at past (rising_front past (j ∷ T) r) j n p a))

@@ -21,14 +21,14 @@ pub record Unknown (known : ℕ) (j : Event) (o : Option Event) (p : Two) : Type
   pub unknown : known ≤ p.0.place
 
 pub unless_has : (known : ℕ) (j : Event) (o : Option Event) (p : Two) → Has p (unless_known known j o) ↔ Unknown known j o p
-unless_has known j None p = (λ m. absurd (Memᴰ.not_nil m), λ h. absurd (none h.access))
+unless_has known j None p = (λ m. absurd (Memᴰ.not-nil m), λ h. absurd (none h.access))
   where
     none : None ≡ Some p.0 → ⊥
     none e = let z : ◌≡◌ {A = ℕ} 0 1 = cc in omega arith
 unless_has known j (Some i) p = (out (ltb i.place known) refl, into)
   where
     out : (b : Bool) → ltb i.place known ≡ b → Has p (cond b [] ((i, j) ∷ [])) → Unknown known j (Some i) p
-    out true q m = absurd (Memᴰ.not_nil m)
+    out true q m = absurd (Memᴰ.not-nil m)
     out false q m =
         let s = Memᴰ.eq_of_singleton m in
         record {
@@ -53,7 +53,7 @@ against_has known j w r p = (out, into)
   where
     second : (b : Bool) → Has p (cond b (unless_known known j r) []) → (b ≡ true) × Unknown known j r p
     second true m = (refl, (unless_has known j r p).0 m)
-    second false m = absurd (Memᴰ.not_nil m)
+    second false m = absurd (Memᴰ.not-nil m)
 
     out : Has p (against known j w r) → Unknown known j w p ⊎ ((is_write_letter j.letter ≡ true) × Unknown known j r p)
     out m = ⊎_elim (λ a. inl ((unless_has known j w p).0 a)) (λ b. inr (second (is_write_letter j.letter) b)) (Memᴰ.append_cases (unless_known known j w) m)
@@ -70,7 +70,7 @@ pub thread_has : (known : ℕ) (T : List Event) (j : Event) (u : ℕ) (p : Two) 
 thread_has known T j u p = (out (eqb u j.thread) refl, into)
   where
     out : (b : Bool) → eqb u j.thread ≡ b → Has p (cond b [] (both_kinds known T j u)) → Rival known T j u p
-    out true q m = absurd (Memᴰ.not_nil m)
+    out true q m = absurd (Memᴰ.not-nil m)
     out false q m = record { apart = eqb-false _ _ q; kind = (against_has known j _ _ p).0 m }
 
     into : Rival known T j u p → Has p (cond (eqb u j.thread) [] (both_kinds known T j u))
@@ -87,7 +87,7 @@ pub record Below (n : ℕ) (T : List Event) (j : Event) (p : Two) : Type 0 where
 
 pub below_has : (n : ℕ) (T : List Event) (j : Event) (p : Two) → Has p (against_below n T j) ↔ Below n T j p
 unfolding against_below
-below_has zero T j p = (λ m. absurd (Memᴰ.not_nil m), λ h. absurd (let b = h.below in omega arith))
+below_has zero T j p = (λ m. absurd (Memᴰ.not-nil m), λ h. absurd (let b = h.below in omega arith))
 below_has (suc n) T j p = (
   λ m.
       ⊎_elim
@@ -108,7 +108,7 @@ at_has n T j p = (out (access j), into)
   where
     out : (b : Bool) → Has p (cond b (against_below n T j) []) → (b ≡ true) × Below n T j p
     out true m = (refl, (below_has n T j p).0 m)
-    out false m = absurd (Memᴰ.not_nil m)
+    out false m = absurd (Memᴰ.not-nil m)
 
     into : (access j ≡ true) × Below n T j p → Has p (found_at n T j)
     into h = subst (λ b. Has p (cond b (against_below n T j) [])) (sym h.0) ((below_has n T j p).1 h.1)

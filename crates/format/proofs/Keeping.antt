@@ -80,7 +80,7 @@ follows_iff c ks (e ∷ es) L i s r g n = (
     rest f A x M q = subst (λ l. Allowed (kind_at ks) l x) (sym (append_assoc L (e ∷ []) A)) (f (e ∷ A) x M (ap (λ l. e ∷ l) q))
 
 none : (P : Event → Type 0) → Among [] P → ⊥
-none P a = Memᴰ.not_nil a.1
+none P a = Memᴰ.not-nil a.1
 
 unborn : (t : ℕ) → (t ≡ 0 → ⊥) → StageIs [] t Unborn
 unborn t z = (record { other = z; never = none (Forks t) }, none (Begins t), none (Ends t))
@@ -94,8 +94,8 @@ fresh_right ks = record {
   stages_long = refl;
   holders_long = refl;
   staged = fresh_staged;
-  held = λ m k lt. subst (HolderIs [] m) (sym (same_everywhere 512 m None)) (λ u h. Memᴰ.not_nil h.«in»);
-  below = λ f m. absurd (Memᴰ.not_nil m);
+  held = λ m k lt. subst (HolderIs [] m) (sym (same_everywhere 512 m None)) (λ u h. Memᴰ.not-nil h.«in»);
+  below = λ f m. absurd (Memᴰ.not-nil m);
 }
 
 pub accepts_iff : (c : Counts) (ks : List ObjectKind) (es : List Event) → AllByRecursion (GoodEvent c) es → Numbered 0 es → Accepts ks fresh es ↔ Keeps (kind_at ks) es

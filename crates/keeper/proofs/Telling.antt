@@ -53,7 +53,7 @@ follows_low (Some q) p h = leb-true _ _ (and_parts (ltb q p) (leb p 999999) h).1
 
 -- in a rising list a place above the last is above each
 follows_all : (es : List Event) → Rising es → (p : ℕ) → follows (last_place es) p ≡ true → (f : Event) → f ∈ es → f.place < p
-follows_all [] r p h f m = absurd (Memᴰ.not_nil m)
+follows_all [] r p h f m = absurd (Memᴰ.not-nil m)
 follows_all (x ∷ []) r p h f m = let lt = ltb-true _ _ (and_parts (ltb x.place p) (leb p 999999) h).0 in omega (arith, same_place (Memᴰ.eq_of_singleton m))
 follows_all (x ∷ y ∷ es) r p h f m =
     let later = follows_all (y ∷ es) r.1 p h in

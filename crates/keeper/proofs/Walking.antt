@@ -86,7 +86,7 @@ module _ (c : Counts) (L : List Event) (sound : Sound c L) (t u : ℕ) where
   }
     where
       nobody : {f : Event} → f ∈ drop (length L) L → ⊥
-      nobody {f} m = Memᴰ.not_nil (subst (λ M. f ∈ M) (drop-length L) m)
+      nobody {f} m = Memᴰ.not-nil (subst (λ M. f ∈ M) (drop-length L) m)
 
   module _ (i : ℕ) (lt : i < length L) (ts os : List Bool) (met : Met c L t u (suc i) ts os) where
     abbrev e : Event

@@ -47,7 +47,7 @@ module _ {X : Type 0} (f : ℕ → List X) where
       (cases_eq i j)
 
   in_gathered : (i n : ℕ) {x : X} → Memᴰ x (gathered i n f) → (j : ℕ) × (i ≤ j) × (j < i + n) × Memᴰ x (f j)
-  in_gathered i zero m = absurd (mathlib.Core.List.Memᴰ.not_nil m)
+  in_gathered i zero m = absurd (mathlib.Core.List.Memᴰ.not-nil m)
   in_gathered i (suc n) m =
       ⊎_elim
       (λ k. (i, omega arith, omega arith, k))
@@ -126,13 +126,13 @@ module _ (L : List Event) (i u : ℕ) where
   parts {o} m = go (met L i u) refl m
     where
       both : met L i u ≡ true → (a b : Option ℕ) → lowest_fitting L (suc i) t v ≡ a → lowest_fitting L (suc i) u v ≡ b → Memᴰ o (on_both L i u a b) → Parts o
-      both h None b e f n = absurd (mathlib.Core.List.Memᴰ.not_nil n)
-      both h (Some p) None e f n = absurd (mathlib.Core.List.Memᴰ.not_nil n)
+      both h None b e f n = absurd (mathlib.Core.List.Memᴰ.not-nil n)
+      both h (Some p) None e f n = absurd (mathlib.Core.List.Memᴰ.not-nil n)
       both h (Some p) (Some q) e f n = record { met_here = h; p = p; q = q; own_is = e; other_is = f; is = mathlib.Core.List.Memᴰ.eq_of_singleton n }
 
       go : (b : Bool) → met L i u ≡ b → Memᴰ o (cond b (on_both L i u (lowest_fitting L (suc i) t v) (lowest_fitting L (suc i) u v)) []) → Parts o
       go true h n = both h (lowest_fitting L (suc i) t v) (lowest_fitting L (suc i) u v) refl refl n
-      go false h n = absurd (mathlib.Core.List.Memᴰ.not_nil n)
+      go false h n = absurd (mathlib.Core.List.Memᴰ.not-nil n)
 
   parts_keys : {o : Overlap} → Parts o → (o.rise ≡ i) × (o.other ≡ u)
   parts_keys r = (ap (λ (x : Overlap). x.rise) r.is, ap (λ (x : Overlap). x.other) r.is)

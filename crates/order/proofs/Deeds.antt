@@ -19,11 +19,11 @@ module _ {S : Type 0} (give : Event → S) where
   deeds_push (x ∷ L) e = ap (λ M. deed x ∷ M) (deeds_push L e)
 
   pub deed_in : (L : List Event) {e : Event} → e ∈ L → Memᴰ (deed e) (deeds give L)
-  deed_in [] m = absurd (Memᴰ.not_nil m)
+  deed_in [] m = absurd (Memᴰ.not-nil m)
   deed_in (x ∷ L) m = ⊎_elim (λ s. Memᴰ.head (ap deed s)) (λ n. Memᴰ.tail (deed_in L n)) (Memᴰ.cases_cons m)
 
   pub deed_of : (L : List Event) (y : Deed S) → Memᴰ y (deeds give L) → (y ≡ deed y.event) × (y.event ∈ L)
-  deed_of [] y m = absurd (Memᴰ.not_nil m)
+  deed_of [] y m = absurd (Memᴰ.not-nil m)
   deed_of (x ∷ L) y m =
       ⊎_elim
       (λ s. let e : y.event ≡ x = ap (λ (d : Deed S). d.event) s in (s ∙ ap deed (sym e), Memᴰ.head e))

@@ -46,7 +46,7 @@ module _ (L : List Event) (r : Rising L) (t u : ℕ) where
   knows e s c = (s, (reaches_iff L r e (chain_first c.chain) t).1 c)
 
   some_known : (M : List Event) → ((e : Event) × (e ∈ M) × Known e) ⊎ ((e : Event) → e ∈ M → Known e → ⊥)
-  some_known [] = inr (λ e i k. Memᴰ.not_nil i)
+  some_known [] = inr (λ e i k. Memᴰ.not-nil i)
   some_known (x ∷ M) = go (known? x) (some_known M)
     where
       go : Dec (Known x) → (((e : Event) × (e ∈ M) × Known e) ⊎ ((e : Event) → e ∈ M → Known e → ⊥)) → ((e : Event) × (e ∈ (x ∷ M)) × Known e) ⊎ ((e : Event) → e ∈ (x ∷ M) → Known e → ⊥)

@@ -37,7 +37,7 @@ module _ (Q : Event → Type 0) (decide : (x : Event) → Dec (Q x)) where
   }
 
   pub latest : (P : List Event) (k : Event) → Q k → (m : Event) × Latest Q P k m
-  latest [] k q = (k, record { held = q; from = inl refl; last = λ x n r. absurd (Memᴰ.not_nil n) })
+  latest [] k q = (k, record { held = q; from = inl refl; last = λ x n r. absurd (Memᴰ.not-nil n) })
   latest (x ∷ P) k q = choose (decide x) (dec_lt k.place x.place) (latest P k q) (λ r. latest P x r)
     where
       choose : Dec (Q x) → Dec (k.place < x.place) → ((m : Event) × Latest Q P k m) → (Q x → (m : Event) × Latest Q P x m) → (m : Event) × Latest Q (x ∷ P) k m

@@ -10,11 +10,11 @@ pub same_place : {e f : Event} → e ≡ f → e.place ≡ f.place
 same_place s = ap (λ (v : Event). v.place) s
 
 pub after_each : {e : Event} (x : Event) (L : List Event) → After x L → e ∈ L → x.place < e.place
-after_each x [] a m = absurd (Memᴰ.not_nil m)
+after_each x [] a m = absurd (Memᴰ.not-nil m)
 after_each x (y ∷ L) a m = ⊎_elim (λ s. omega (arith, same_place s, a.0)) (λ n. after_each x L a.1 n) (Memᴰ.cases_cons m)
 
 pub before_each : {e f : Event} (L M : List Event) → Rising (L ++ M) → f ∈ L → e ∈ M → f.place < e.place
-before_each [] M r m n = absurd (Memᴰ.not_nil m)
+before_each [] M r m n = absurd (Memᴰ.not-nil m)
 before_each (x ∷ L) M r m n =
     ⊎_elim
     (λ s. omega (arith, same_place s, after_each x (L ++ M) r.0 (Memᴰ.append_right L n)))
@@ -42,7 +42,7 @@ rising_front (x ∷ L) M r = (after_front x L M r.0, rising_front L M r.1)
 
 -- in a rising list a place is one event's
 pub place_once : (L : List Event) → Rising L → {e f : Event} → e ∈ L → f ∈ L → e.place ≡ f.place → e ≡ f
-place_once [] r m n p = absurd (Memᴰ.not_nil m)
+place_once [] r m n p = absurd (Memᴰ.not-nil m)
 place_once (x ∷ L) r m n p =
     ⊎_elim
     (λ s. ⊎_elim (λ t. s ∙ sym t) (λ j. absurd (let a = after_each x L r.0 j in omega (arith, same_place s))) (Memᴰ.cases_cons n))

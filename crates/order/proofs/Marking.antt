@@ -37,7 +37,7 @@ one_from (x ∷ M) g h =
     ⊎_elim (λ p. (x, Memᴰ.head refl, links_linked x g p)) (λ p. let s = one_from M g p in (s.0, Memᴰ.tail s.1, s.2)) (or_cases (links x g) (one_links M g) h)
 
 one_to : (M : List Event) {m g : Event} → m ∈ M → Linked m g → one_links M g ≡ true
-one_to [] i k = absurd (Memᴰ.not_nil i)
+one_to [] i k = absurd (Memᴰ.not-nil i)
 one_to (x ∷ M) {m} {g} i k =
     ⊎_elim (λ s. or_left (links x g) (one_links M g) (linked_links (subst (λ v. Linked v g) s k))) (λ j. or_right (links x g) (one_links M g) (one_to M j k)) (Memᴰ.cases_cons i)
 
@@ -77,7 +77,7 @@ module _ (e : Event) where
 
   pub marks_all : (L : List Event) → Rising L → e ∈ L → Marks (marked e.place [] L) L
   marks_all L r i =
-      marks_on L [] [] (λ f. (λ m. absurd (Memᴰ.not_nil m), λ c. absurd (Memᴰ.not_nil (chain_first c)))) r (λ g m. place_once L r i m)
+      marks_on L [] [] (λ f. (λ m. absurd (Memᴰ.not-nil m), λ c. absurd (Memᴰ.not-nil (chain_first c)))) r (λ g m. place_once L r i m)
 
 has_place_at : (M : List Event) (p : ℕ) → has_place p M ≡ true → (m : Event) × (m ∈ M) × (p ≡ m.place)
 has_place_at [] p h = absurd (clash h)
@@ -85,7 +85,7 @@ has_place_at (x ∷ M) p h =
     ⊎_elim (λ t. (x, Memᴰ.head refl, eqb-true _ _ t)) (λ t. let s = has_place_at M p t in (s.0, Memᴰ.tail s.1, s.2)) (or_cases (eqb p x.place) (has_place p M) h)
 
 has_place_of : (M : List Event) {m : Event} → m ∈ M → has_place m.place M ≡ true
-has_place_of [] i = absurd (Memᴰ.not_nil i)
+has_place_of [] i = absurd (Memᴰ.not-nil i)
 has_place_of (x ∷ M) {m} i =
     ⊎_elim (λ s. or_left _ (has_place m.place M) (eq-eqb _ _ (same_place s))) (λ j. or_right (eqb m.place x.place) (has_place m.place M) (has_place_of M j)) (Memᴰ.cases_cons i)
 
@@ -103,7 +103,7 @@ has_thread_at (x ∷ M) t h =
     ⊎_elim (λ p. (x, Memᴰ.head refl, eqb-true _ _ p)) (λ p. let s = has_thread_at M t p in (s.0, Memᴰ.tail s.1, s.2)) (or_cases (eqb x.thread t) (has_thread t M) h)
 
 has_thread_of : (M : List Event) {m : Event} (t : ℕ) → m ∈ M → m.thread ≡ t → has_thread t M ≡ true
-has_thread_of [] t i e = absurd (Memᴰ.not_nil i)
+has_thread_of [] t i e = absurd (Memᴰ.not-nil i)
 has_thread_of (x ∷ M) {m} t i e =
     ⊎_elim
     (λ s. or_left _ (has_thread t M) (eq-eqb _ _ (ap (λ (v : Event). v.thread) (sym s) ∙ e)))

@@ -17,7 +17,7 @@ at_in (x ∷ L) zero d lt = Memᴰ.head refl
 at_in (x ∷ L) (suc i) d lt = Memᴰ.tail (at_in L i d (omega arith))
 
 pub in_at : (L : List Event) {e : Event} (d : Event) → e ∈ L → (i : ℕ) × (i < length L) × (get_or L i d ≡ e)
-in_at [] d m = absurd (Memᴰ.not_nil m)
+in_at [] d m = absurd (Memᴰ.not-nil m)
 in_at (x ∷ L) d m = ⊎_elim (λ s. (0, omega arith, sym s)) (λ n. let h = in_at L d n in (suc h.0, omega (arith, h.1), h.2)) (Memᴰ.cases_cons m)
 
 pub rising_at : (L : List Event) → Rising L → (i j : ℕ) (d : Event) → i < j → j < length L → (get_or L i d).place < (get_or L j d).place
@@ -83,7 +83,7 @@ after_of x [] h = tt
 after_of x (y ∷ L) h = (h y (Memᴰ.head refl), after_of x L (λ e m. h e (Memᴰ.tail m)))
 
 pub rises_sound : (p : ℕ) (L : List Event) → rises_from p L ≡ true → Rising L × ((e : Event) → e ∈ L → p ≤ e.place)
-rises_sound p [] h = (tt, λ e m. absurd (Memᴰ.not_nil m))
+rises_sound p [] h = (tt, λ e m. absurd (Memᴰ.not-nil m))
 rises_sound p (x ∷ L) h =
     let w = and_parts (leb p x.place) (rises_from (suc x.place) L) h in
     let low : p ≤ x.place = leb-true _ _ w.0 in

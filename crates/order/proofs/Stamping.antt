@@ -30,7 +30,7 @@ events_push [] x = refl
 events_push (y ∷ xs) x = ap (λ M. y.event ∷ M) (events_push xs x)
 
 pub event_in : {S : Type 0} (xs : List (Deed S)) {y : Deed S} → Memᴰ y xs → y.event ∈ events xs
-event_in [] m = absurd (Memᴰ.not_nil m)
+event_in [] m = absurd (Memᴰ.not-nil m)
 event_in {S} (x ∷ xs) m = ⊎_elim (λ s. Memᴰ.head (ap (λ (d : Deed S). d.event) s)) (λ n. Memᴰ.tail (event_in xs n)) (Memᴰ.cases_cons m)
 
 module _ {S : Type 0} {below : S → S → Type 0} {merged : S → S → S} {least : S} (laws : Laws below merged least) where
@@ -179,9 +179,9 @@ module _ {S : Type 0} {below : S → S → Type 0} {merged : S → S → S} {lea
 
   start_right : Right All All [] [] (fresh least)
   start_right = record {
-    listed = λ x m. absurd (Memᴰ.not_nil m);
-    thread = λ t u. record { upper = λ x m c. absurd (Memᴰ.not_nil m); least = λ b k. laws.bottom b };
-    object = λ o u. record { upper = λ x m c. absurd (Memᴰ.not_nil m); least = λ b k. laws.bottom b };
+    listed = λ x m. absurd (Memᴰ.not-nil m);
+    thread = λ t u. record { upper = λ x m c. absurd (Memᴰ.not-nil m); least = λ b k. laws.bottom b };
+    object = λ o u. record { upper = λ x m c. absurd (Memᴰ.not-nil m); least = λ b k. laws.bottom b };
   }
 
   pub stamps_reached : (xs : List (Deed S)) → Rising (events xs) → (t : ℕ) → Bound below xs (λ e. Reaches (events xs) e t) ((run merged (fresh least) xs).threads t)
@@ -198,8 +198,8 @@ module _ {S : Type 0} {below : S → S → Type 0} {merged : S → S → S} {lea
   -- before any event each stamp in use is the least
   pub sums_none : (Thread : ℕ → Type 0) (Used : Object → Type 0) (s : State S) → ((t : ℕ) → Thread t → s.threads t ≡ least) → ((o : Object) → Used o → s.objects o ≡ least) → Sums below Thread Used [] s
   sums_none Thread Used s ts os = record {
-    thread = λ t u. record { upper = λ x m c. absurd (Memᴰ.not_nil m); least = λ b k. subst (λ v. below v b) (sym (ts t u)) (laws.bottom b) };
-    object = λ o u. record { upper = λ x m c. absurd (Memᴰ.not_nil m); least = λ b k. subst (λ v. below v b) (sym (os o u)) (laws.bottom b) };
+    thread = λ t u. record { upper = λ x m c. absurd (Memᴰ.not-nil m); least = λ b k. subst (λ v. below v b) (sym (ts t u)) (laws.bottom b) };
+    object = λ o u. record { upper = λ x m c. absurd (Memᴰ.not-nil m); least = λ b k. subst (λ v. below v b) (sym (os o u)) (laws.bottom b) };
   }
 
   -- stamps that are the same where they are in use

@@ -78,7 +78,7 @@ tick_other : (e : Event) (k : ℕ) → (k ≢ e.thread) → at (tick e) k ≡ 0
 tick_other e k ne = get_or-set_other (replicate 16 0) e.thread k (min (e.place + 1) (2 ^ 32 - 1)) 0 ne ∙ get_or_zeros 16 k
 
 pub placed_in : (c : Counts) (L : List Event) → AllByRecursion (Placed c) L → {e : Event} → e ∈ L → Placed c e
-placed_in c [] h m = absurd (Memᴰ.not_nil m)
+placed_in c [] h m = absurd (Memᴰ.not-nil m)
 placed_in c (x ∷ L) h m = ⊎_elim (λ s. subst (Placed c) (sym s) h.0) (λ n. placed_in c L h.1 n) (Memᴰ.cases_cons m)
 
 -- The clock bounds each tick behind t, and so its number for u bounds the places of u's events there. It is below each other clock that

@@ -91,7 +91,7 @@ places_once (suc d) i n = go (n % 2 == 1) (places_once d (suc i) (n / 2))
 
 pub place_digit : (d i n u : ℕ) → Memᴰ u (places_of d i n) → (k : ℕ) × (u ≡ i + k) × (digit k n ≡ 1)
 unfolding places_of
-place_digit zero i n u m = absurd (Memᴰ.not_nil m)
+place_digit zero i n u m = absurd (Memᴰ.not-nil m)
 place_digit (suc d) i n u m = go (n % 2 == 1) refl (place_digit d (suc i) (n / 2) u) m
   where
     on : ((k : ℕ) × (u ≡ suc i + k) × (digit k (n / 2) ≡ 1)) → (k : ℕ) × (u ≡ i + k) × (digit k n ≡ 1)

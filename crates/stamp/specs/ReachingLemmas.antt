@@ -64,7 +64,7 @@ only_other t u ne h = go (nat_lt t 16) h
     go false k = omega (arith, k, digit_zero u)
 
 few_in : (L : List Event) → Few L → {e : Event} → e ∈ L → e.thread < 16
-few_in [] h m = absurd (Memᴰ.not_nil m)
+few_in [] h m = absurd (Memᴰ.not-nil m)
 few_in (x ∷ L) h m = ⊎_elim (λ s. omega (arith, h.0, ap (λ (v : Event). v.thread) s)) (λ n. few_in L h.1 n) (Memᴰ.cases_cons m)
 
 -- the threads of the list but u
@@ -83,7 +83,7 @@ others_lack u (e ∷ L) h = go (e.thread == u) refl (others_lack u L) h
 
 others_have : (u : ℕ) (L : List Event) {e : Event} → e ∈ L → (e.thread ≢ u) → Subset (only e.thread) (others u L)
 unfolding others
-others_have u [] {e} m ne v h = absurd (Memᴰ.not_nil m)
+others_have u [] {e} m ne v h = absurd (Memᴰ.not-nil m)
 others_have u (x ∷ L) {e} m ne v h =
     ⊎_elim
     (λ s. here (x.thread == u) refl (subst (λ (w : Event). w.thread ≢ u) s ne) (subst (λ (w : Event). Has (only w.thread) v) s h))
