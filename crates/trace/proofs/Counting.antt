@@ -16,9 +16,9 @@ capped high n p = omega arith
 -- a lawful trace's counts are within their limits, so none is moved
 pub counted : (t : Trace) → Laid t → Lawful (contents_of t) → length (contents_of t).events ≡ t.events.count → Counted t
 counted t l w e = record {
-  threads = within 1 16 t.threads.count (omega (arith, w.some_threads, l.threads-count)) (omega (arith, w.few_threads, l.threads-count)) ∙ sym l.threads-count;
-  objects = capped 512 t.objects.count (omega (arith, w.few_objects, l.objects-count)) ∙ sym l.objects-count;
-  variables = capped 256 t.variables.count (omega (arith, w.few_variables, l.variables-count)) ∙ sym l.variables-count;
+  threads = within 1 16 t.threads.count (omega (arith, w.some_threads, l.threads_count)) (omega (arith, w.few_threads, l.threads_count)) ∙ sym l.threads_count;
+  objects = capped 512 t.objects.count (omega (arith, w.few_objects, l.objects_count)) ∙ sym l.objects_count;
+  variables = capped 256 t.variables.count (omega (arith, w.few_variables, l.variables_count)) ∙ sym l.variables_count;
   events = sym e;
 }
 

@@ -5,17 +5,17 @@ use Rattle.format.proofs.Checks.{verdict, verdict_step, verdict_good, told, got_
 use Rattle.trace.proofs.file.check_events.Goals as goal
 
 pub step-requires : goal.step-requires
-step-requires c = event_range c.loop-place.rules.counts c.loop-place.place c.loop-place.rest.now c.in-ok-e.e c.in-ok-e.ensures
+step-requires c = event_range c.loop-place.rules.counts c.loop-place.place c.loop-place.rest.now c.in_ok-e.e c.in_ok-e.ensures
 
 pub loop-place-preserved : goal.loop-place-preserved
 loop-place-preserved c =
     let l = c.loop-place in
     let s = c.step.new.self in
-    let same = c.in-ok-step.ensures.rest in
+    let same = c.in_ok-step.ensures.rest in
     let m = c.args.events.count - (l.place + 1) in
     let good =
-    verdict_good l.rules.kinds l.rules.counts (standing_of l.rules) (standing_of s) l.place (c.args.events.count - l.place) m l.rest.now c.in-ok-e.e (omega arith)
-    c.in-ok-e.ensures c.in-ok-step.ensures.standing in (
+    verdict_good l.rules.kinds l.rules.counts (standing_of l.rules) (standing_of s) l.place (c.args.events.count - l.place) m l.rest.now c.in_ok-e.e (omega arith)
+    c.in_ok-e.ensures c.in_ok-step.ensures.standing in (
       omega (arith, c.split-at.ensures.back_len, l.invariant.0),
       same.0 ∙ l.invariant.1,
       same.1 ∙ l.invariant.2,

@@ -20,9 +20,9 @@ loop-i-preserved c =
     let l = c.loop-i in
     let h = c.in-Some.ensures.steps in
     let one = ap length h in (
-      length-set l.table l.i c.kind-of.result ∙ l.invariant.0,
+      length-set l.table l.i c.kind_of.result ∙ l.invariant.0,
       omega (arith, l.invariant.1, one),
-      written_more l.table l.i c.kind-of.result (shown l.entries) (shown c.next.new.self) (spot_of c.in-Some.e) c.kind-of.ensures h ∙ l.invariant.2,
+      written_more l.table l.i c.kind_of.result (shown l.entries) (shown c.next.new.self) (spot_of c.in-Some.e) c.kind_of.ensures h ∙ l.invariant.2,
     )
 
 pub returns-after-loop-i : goal.returns-after-loop-i

@@ -7,5 +7,5 @@ pub returns : goal.returns
 returns c =
     let bs = c.args.bytes.now in
     let s = c.scan.ensures in
-    let e = answers bs _ (all_bytes bs c.type-inv.bytes) s.value in
+    let e = answers bs _ (all_bytes bs c.type_inv.bytes) s.value in
     record { value = s.value; exact = e; laid = s.laid; counted = all_counted bs c.scan.result s.laid s.events e }

@@ -4,4 +4,4 @@ use Rattle.trace.proofs.Fronts.{take_seen}
 use Rattle.trace.proofs.names.good_front.Goals as goal
 
 pub returns : goal.returns
-returns c = c.all-good.ensures ∙ ap all_good_bytes (take_seen _ _ _ c.min-seen.ensures)
+returns c = c.all_good.ensures ∙ ap all_good_bytes (take_seen _ _ _ c.min-seen.ensures)

@@ -7,6 +7,6 @@ pub returns : goal.returns
 returns c =
     same_clock _ _
     (elim c.if-e-lt16.branch [
-      | then-e-lt16 w ↦ w.entries-is ∙ ap₂ (set {A = ℕ} (replicate 16 0)) w.from.ensures w.saturating-add.ensures
+      | then-e-lt16 w ↦ w.entries-is ∙ ap₂ (set {A = ℕ} (replicate 16 0)) w.from.ensures w.saturating_add.ensures
       | else-e-lt16 w ↦ w.entries-is ∙ tick_past c.args.e w.if-e-lt16.false
     ])

@@ -7,7 +7,7 @@ use Rattle.trace.proofs.entries.EntriesIterator.next.Goals as goal
 pub returns-in-Ok : goal.returns-in-Ok
 returns-in-Ok c =
     let s = c.args.self.now in
-    let r = c.next-entry.new.r in
+    let r = c.next_entry.new.r in
     let e = c.in-Ok.e in
     record {
       steps =

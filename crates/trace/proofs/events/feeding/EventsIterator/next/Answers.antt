@@ -8,7 +8,7 @@ returns-in-Ok c =
     let s = c.args.self.now in
     let e = got_step s.counts s.place (s.count - s.place) (s.count - (s.place + 1)) s.rest.now (omega arith) (omega arith) in
     record {
-      steps = (e ∙ (λ v. got_event (sym c.in-Ok.ensures v) (got_events s.counts (s.place + 1) (s.count - (s.place + 1)) (sym c.split-at.ensures.back v))), refl);
+      steps = (e ∙ (λ v. got_event (sym c.in-Ok.ensures v) (got_events s.counts (s.place + 1) (s.count - (s.place + 1)) (sym c.split_at.ensures.back v))), refl);
       goes = search rules;
     }
 
