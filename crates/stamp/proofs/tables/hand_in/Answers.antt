@@ -19,10 +19,10 @@ returns g c =
     let fits = handed_fits counts (length ts) (length os) e ok in
     let thread = c.from-thread.ensures in
     let stamp : c.join-stamp.result ≡ stamp_after join x counts ts os e v =
-    stamp_parts join x counts ts os e v c.copy-out-before.result c.acquire.result c.join-stamp.result c.from-thread.result c.slot-of.result
-    thread c.copy-out-before.ensures (c.slot-of.ensures ∙ ap (option_map (slot counts)) c.acquires.ensures) c.acquire.ensures c.join-stamp.ensures in
-    let threads = c.write-back.ensures ∙ ap₂ (set ts) thread stamp in
-    let objects = c.release.ensures ∙ ap₂ (joined_into join os) (c.slot-of-2.ensures ∙ ap (option_map (slot counts)) c.releases.ensures) stamp in
+    stamp_parts join x counts ts os e v c.copy_out-before.result c.acquire.result c.join-stamp.result c.from-thread.result c.slot_of.result
+    thread c.copy_out-before.ensures (c.slot_of.ensures ∙ ap (option_map (slot counts)) c.acquires.ensures) c.acquire.ensures c.join-stamp.ensures in
+    let threads = c.write_back.ensures ∙ ap₂ (set ts) thread stamp in
+    let objects = c.release.ensures ∙ ap₂ (joined_into join os) (c.slot_of-2.ensures ∙ ap (option_map (slot counts)) c.releases.ensures) stamp in
     record {
       answer = ok;
       threads = threads;

@@ -16,20 +16,20 @@ loop-place-preserved c =
     let good =
     verdict_good l.rules.kinds l.rules.counts (standing_of l.rules) (standing_of s) l.place (c.args.events.count - l.place) m l.rest.now c.in_ok-e.e (omega arith)
     c.in_ok-e.ensures c.in_ok-step.ensures.standing in (
-      omega (arith, c.split-at.ensures.back_len, l.invariant.0),
+      omega (arith, c.split_at.ensures.back_len, l.invariant.0),
       same.0 ∙ l.invariant.1,
       same.1 ∙ l.invariant.2,
-      (λ j. verdict (ruled_from (same.1 j) (same.0 j) (standing_of s) (l.place + 1) m (c.split-at.ensures.back j))) ∙ good ∙ l.invariant.3,
+      (λ j. verdict (ruled_from (same.1 j) (same.0 j) (standing_of s) (l.place + 1) m (c.split_at.ensures.back j))) ∙ good ∙ l.invariant.3,
     )
 
-pub returns-in-err-e : goal.returns-in-err-e
-returns-in-err-e c =
+pub returns-in_err-e : goal.returns-in_err-e
+returns-in_err-e c =
     let l = c.loop-place in
     let e = verdict_step l.rules.kinds l.rules.counts (standing_of l.rules) l.place (c.args.events.count - l.place) (c.args.events.count - (l.place + 1)) l.rest.now (omega arith) in
     record { length = search rules; value = told _ _ _ (λ es h. got_events_is c.args.rules.kinds c.args.rules.counts (standing_of c.args.rules) 0 c.args.events.count c.args.events.bytes.now es c.requires h) (search rules) }
 
-pub returns-in-err-step : goal.returns-in-err-step
-returns-in-err-step c =
+pub returns-in_err-step : goal.returns-in_err-step
+returns-in_err-step c =
     let l = c.loop-place in
     let e = verdict_step l.rules.kinds l.rules.counts (standing_of l.rules) l.place (c.args.events.count - l.place) (c.args.events.count - (l.place + 1)) l.rest.now (omega arith) in
     record { length = search rules; value = told _ _ _ (λ es h. got_events_is c.args.rules.kinds c.args.rules.counts (standing_of c.args.rules) 0 c.args.events.count c.args.events.bytes.now es c.requires h) (search rules) }

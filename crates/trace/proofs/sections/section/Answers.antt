@@ -13,5 +13,5 @@ returns c =
     section_read c.args.kind c.args.low c.args.high r.total c.total-total.result n r.rest.now c.two.new.self.rest.now c.rest-bytes.result.now c.skip.new.r.rest.now
     c.rest-bytes.ensures (c.total-total.ensures ∙ c.in_ok-count.ensures.total) r.within (omega arith) (omega arith)
     (c.in_ok-count.ensures.value ∙ ap (λ p. two_from p r.rest.now) c.offset-start.ensures.value)
-    (c.in-ok-skip.ensures.value ∙ ap (λ t. after (items_from c.args.kind t n c.two.new.self.rest.now)) c.in_ok-count.ensures.total) in
+    (c.in_ok-skip.ensures.value ∙ ap (λ t. after (items_from c.args.kind t n c.two.new.self.rest.now)) c.in_ok-count.ensures.total) in
     record { value = s.value; laid = s.at; count = s.count; few = (omega arith, omega arith); kind = refl; total = search rules }

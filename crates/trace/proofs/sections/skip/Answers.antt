@@ -2,8 +2,8 @@ use Rattle.std.proofs.Common.{◌+◌, ◌-◌, arith, rules}
 use Rattle.trace.proofs.Skips.{after_step}
 use Rattle.trace.proofs.sections.skip.Goals as goal
 
-pub returns-in-err--e : goal.returns-in-err--e
-returns-in-err--e c =
+pub returns-in_err-_e : goal.returns-in_err-_e
+returns-in_err-_e c =
     let e = after_step c.args.kind c.loop-i.r.total (c.args.count - c.loop-i.-i) (c.args.count - (c.loop-i.-i + 1)) c.loop-i.r.rest.now (omega arith) in
     search rules
 
