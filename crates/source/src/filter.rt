@@ -37,8 +37,8 @@ pub fn piles_up<F: Filter>(f: &F) -> u8
 
 // A filter over a filter leaves out accesses of what both stand on, and nothing else.
 pub fn pile_of_two<P: Filter, F: Filter<Below = P>>(f: &F) -> u8
-    ensures thins { Thins (Below-as-Source.rest (P.Filter.under (F.Filter.under f.now))) (F.Source.rest f.now) }
-    ensures same { Below-as-Source.counts (P.Filter.under (F.Filter.under f.now)) ≡ F.Source.counts f.now }
+    ensures thins { Thins (P.Below.Source.rest (P.Filter.under (F.Filter.under f.now))) (F.Source.rest f.now) }
+    ensures same { P.Below.Source.counts (P.Filter.under (F.Filter.under f.now)) ≡ F.Source.counts f.now }
 {
     0
 }

@@ -20,7 +20,7 @@ use Rattle.format.proofs.Steps.{ok_lift_then}
 
 -- the counts of the sections are those of their entries
 counts_laid : (t : Trace) → Laid t → counts_in t ≡ declared_counts (items_in t.threads) (items_in t.objects) (items_in t.variables)
-counts_laid t l = λ i. nearest (sym l.threads_count i) (sym l.objects-count i) (sym l.variables-count i)
+counts_laid t l = λ i. nearest (sym l.threads_count i) (sym l.objects_count i) (sym l.variables_count i)
 
 map_map : {X Y Z E : Type 0} (f : X → Y) (g : Y → Z) (r : Result X E) → map_ok (λ x. g (f x)) r ≡ map_ok g (map_ok f r)
 map_map f g (Ok x) = refl

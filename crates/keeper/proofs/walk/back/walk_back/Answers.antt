@@ -36,7 +36,7 @@ loop-i-preserved-then-leads c = λ p q sound lt lu.
     let met = subst (λ k. Met counts es c.args.t c.args.u k ts os) (sym back) (c.loop-i.invariant p q sound lt lu) in
     let step : leads counts ts os e ≡ true = sym c.leads.ensures ∙ c.if-leads.true in
     let threads = c.flag-then-leads.ensures ∙ ap (λ k. set ts k true) c.from-then-leads.ensures in
-    let objects = c.flag-then-leads-2.ensures ∙ ap (flag os) (c.slot-of.ensures ∙ ap (option_map (slot counts)) c.acquires.ensures) in
+    let objects = c.flag-then-leads-2.ensures ∙ ap (flag os) (c.slot_of.ensures ∙ ap (option_map (slot counts)) c.acquires.ensures) in
     subst₂ (λ l m. Met counts es c.args.t c.args.u i l m) (sym threads) (sym objects)
     (met_more counts es sound c.args.t c.args.u i (omega arith) ts os met step (λ s. c.if-from-u.false (c.from.ensures ∙ s)))
 
@@ -51,7 +51,7 @@ returns-then-from-u c = λ p q sound lt lu.
     let begun = c.flag.ensures ∙ ap (λ l. set l c.args.t true) p in
     let met = subst (λ k. Met counts es c.args.t c.args.u k ts os) (sym back) (c.loop-i.invariant begun q sound lt lu) in
     let step : leads counts ts os (get_or es i blank) ≡ true = sym c.leads.ensures ∙ c.if-leads.true in
-    subst (λ n. IsEntry es c.args.t c.args.u n) (sym c.saturating-add.ensures)
+    subst (λ n. IsEntry es c.args.t c.args.u n) (sym c.saturating_add.ensures)
     (met_found counts es sound c.args.t c.args.u i (omega arith) ts os met step (sym c.from.ensures ∙ c.if-from-u.true))
 
 pub returns : goal.returns

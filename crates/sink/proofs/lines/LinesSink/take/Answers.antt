@@ -11,7 +11,7 @@ returns c =
     record {
       answer = search rules;
       more = omega arith;
-      stepped = rw c.write.ensures (line_more s.taken c.args.pair was fits s.bytes.name);
+      stepped = rw c.write.ensures (line_more s.taken c.args.pair was fits s.bytes.ghost_name);
       kept = tt;
       same_capacity = ap (λ n. n / 21) long;
     }

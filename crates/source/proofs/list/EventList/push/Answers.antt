@@ -8,17 +8,17 @@ use Rattle.source.proofs.list.EventList.push.Goals as goal
 pub append-requires : goal.append-requires
 append-requires c =
     let l = c.args.self.now in
-    let took = ap is_ok (sym c.in-ok-check.ensures) in
+    let took = ap is_ok (sym c.in_ok-check.ensures) in
     record {
       room = offered_room l.counts (capacity l) (listed l) c.args.e took;
       sound = offered_sound l.counts (capacity l) (listed l) c.args.e (sound_held l.counts (listed l) l.sound) took;
     }
 
-pub returns-in-err-check : goal.returns-in-err-check
-returns-in-err-check c =
+pub returns-in_err-check : goal.returns-in_err-check
+returns-in_err-check c =
     let l = c.args.self.now in
-    let answer = c.in-err-check.ensures in
-    let p = err_from_is_err_and c.from-residual.result c.from-residual.ensures.1 in
+    let answer = c.in_err-check.ensures in
+    let p = err_from_is_err_and c.from_residual.result c.from_residual.ensures.1 in
     rw (p.1, p.2)
     record {
       answer = answer;
@@ -32,7 +32,7 @@ returns-in-err-check c =
 pub returns : goal.returns
 returns c =
     let l = c.args.self.now in
-    let answer = c.in-ok-check.ensures in
+    let answer = c.in_ok-check.ensures in
     let made = c.append.ensures in
     record {
       answer = answer;

@@ -11,7 +11,7 @@ returns c =
     let fresh = c.args.fresh in
     let ts = c.args.self.now.threads.now in
     let os = c.args.self.now.objects.now in
-    let ok : Ok tt ≡ starting fresh (length ts) (length os) = sym c.in-ok-room.was ∙ c.room.ensures in
+    let ok : Ok tt ≡ starting fresh (length ts) (length os) = sym c.in_ok-room.was ∙ c.room.ensures in
     let threads = c.clear.ensures ∙ ap (λ n. cleared n zeros ts) c.threads.ensures in
     let objects = c.clear-2.ensures ∙ ap (λ n. cleared n zeros os) c.slots.ensures in
     record {

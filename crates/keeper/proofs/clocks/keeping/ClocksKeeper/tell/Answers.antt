@@ -12,7 +12,7 @@ returns c =
     let after = c.carry.new.self in
     let counts = counts_of me.plain in
     let e = c.args.e in
-    let ok : Ok tt ≡ admitting counts many me.told me.last e = sym c.in-ok-admit.was ∙ c.admit.ensures ∙ ap (λ d. admitting d many me.told me.last e) c.counts.ensures in
+    let ok : Ok tt ≡ admitting counts many me.told me.last e = sym c.in_ok-admit.was ∙ c.admit.ensures ∙ ap (λ d. admitting d many me.told me.last e) c.counts.ensures in
     let same : counts_of after.plain ≡ counts = ap counts_of c.carry.ensures.plain in
     record {
       tells = record {

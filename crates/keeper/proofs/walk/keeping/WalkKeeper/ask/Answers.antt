@@ -15,7 +15,7 @@ returns c =
     let u = c.args.u in
     let n = c.entry.result in
     let same = c.counts-counts.ensures in
-    let both = none_undeclared counts t u (sym c.in-ok-declared.was ∙ c.declared.ensures ∙ ap (λ d. unless (undeclared d t u) tt) same) in
+    let both = none_undeclared counts t u (sym c.in_ok-declared.was ∙ c.declared.ensures ∙ ap (λ d. unless (undeclared d t u) tt) same) in
     let found : (es : List Event) → Walked counts me.events.now me.told me.last es → IsEntry es t u n = λ es h.
     walked_entry counts c.counts-counts.result me.events.now me.told c.min-n.result me.last es t u n same c.min-n.ensures h both.1 both.2 c.entry.ensures in
     record {

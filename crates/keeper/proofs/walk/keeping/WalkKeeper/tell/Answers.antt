@@ -11,7 +11,7 @@ returns c =
     let counts = counts_of me.plain in
     let room = length me.events.now in
     let e = c.args.e in
-    let ok : Ok tt ≡ admitting counts room me.told me.last e = sym c.in-ok-admit.was ∙ c.admit.ensures ∙ ap (λ d. admitting d room me.told me.last e) c.counts.ensures in
+    let ok : Ok tt ≡ admitting counts room me.told me.last e = sym c.in_ok-admit.was ∙ c.admit.ensures ∙ ap (λ d. admitting d room me.told me.last e) c.counts.ensures in
     record {
       tells = record {
         answer = λ es h. ok ∙ telling_same counts room me.told me.last e es h.count h.latest;

@@ -9,13 +9,13 @@ use Rattle.source.proofs.list.events.ListEventsSource.next.Goals as goal
 abbrev blank : Event
 blank = record { place = 0; thread = 0; letter = Read; number = 0; region = 0 }
 
-pub returns-in-default : goal.returns-in-default
-returns-in-default c =
+pub returns-in_default : goal.returns-in_default
+returns-in_default c =
     let none : c.args.self.now.events.now ≡ [] = nil_from_length _ (omega (arith, ltb-true, ltb-false)) in
     record { hands = (none, none); keeps = refl }
 
-pub invariant-of-self : goal.invariant-of-self
-invariant-of-self c = let s = c.args.self.now in (rest_sound s.counts s.events.now blank (omega (arith, ltb-true, ltb-false)) s.sound, tt)
+pub invariant_of-self : goal.invariant_of-self
+invariant_of-self c = let s = c.args.self.now in record { sound = rest_sound s.counts s.events.now blank (omega (arith, ltb-true, ltb-false)) s.sound }
 
 pub returns : goal.returns
 returns c = record { hands = split_first c.args.self.now.events.now blank (omega (arith, ltb-true, ltb-false)); keeps = refl }
