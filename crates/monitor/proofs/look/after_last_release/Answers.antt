@@ -13,19 +13,19 @@ loop-i-preserved c = λ j le lt.
     let es = c.args.events.now in
     let i = c.loop-i.i - 1 in
     ⊎_elim
-    (λ s. ap (λ n. releases_of c.args.thread (get_or es n blank)) s ∙ sym c.is-release.ensures ∙ c.if-is-release.false)
+    (λ s. ap (λ n. releases_of c.args.thread (get_or es n blank)) s ∙ sym c.is_release.ensures ∙ c.if-is_release.false)
     (λ ne. c.loop-i.invariant j (omega arith) lt)
     (cases_eq j i)
 
-pub returns-then-is-release : goal.returns-then-is-release
-returns-then-is-release c =
+pub returns-then-is_release : goal.returns-then-is_release
+returns-then-is_release c =
     let es = c.args.events.now in
     let i = c.loop-i.i - 1 in
     let lt : i < length es = omega arith in
     record {
       value =
           add-one i
-          ∙ sym (after_last_is (releases_of c.args.thread) es i lt (sym c.is-release.ensures ∙ c.if-is-release.true) (λ j l m. c.loop-i.invariant j (omega arith) m));
+          ∙ sym (after_last_is (releases_of c.args.thread) es i lt (sym c.is_release.ensures ∙ c.if-is_release.true) (λ j l m. c.loop-i.invariant j (omega arith) m));
       within = omega arith;
     }
 

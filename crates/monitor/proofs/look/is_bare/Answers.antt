@@ -6,5 +6,5 @@ pub returns : goal.returns
 returns c =
     let es = c.args.events.now in
     let t = c.args.thread in
-    c.is-row-bare.ensures
-    ∙ ap (row_bare c.args.counts c.args.levels.now t) (c.mark-all.ensures ∙ ap₂ (λ a b. marks_of t (take (b - a) (drop a es))) c.span-from.ensures.from c.span-from.ensures.to)
+    c.is_row_bare.ensures
+    ∙ ap (row_bare c.args.counts c.args.levels.now t) (c.mark_all.ensures ∙ ap₂ (λ a b. marks_of t (take (b - a) (drop a es))) c.span-from.ensures.from c.span-from.ensures.to)

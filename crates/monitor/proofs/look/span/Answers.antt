@@ -10,6 +10,6 @@ returns c =
     let k = c.args.moment in
     let t = c.args.thread in
     let all : k - 0 ≡ k = omega arith in
-    let from = c.after-last-release-from.ensures.value ∙ ap (λ n. after_last (releases_of t) (take n es)) all in
-    let to = ap (λ n. k + n) (c.before-first-acquire.ensures.value ∙ ap (before_first (acquires_of t)) (take_rest es k)) in
+    let from = c.after_last_release-from.ensures.value ∙ ap (λ n. after_last (releases_of t) (take n es)) all in
+    let to = ap (λ n. k + n) (c.before_first_acquire.ensures.value ∙ ap (before_first (acquires_of t)) (take_rest es k)) in
     record { from = from; to = to; within = (omega (arith, from, span_from_within es t k c.requires), omega (arith, to, span_to_within es t k c.requires)) }

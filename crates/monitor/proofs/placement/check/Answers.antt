@@ -11,12 +11,12 @@ use Rattle.monitor.proofs.Judging.{judged, room_fits, room_lacks, checked_lackin
 use Rattle.monitor.proofs.Tabling.{cleared_clear, cleared_length}
 use Rattle.monitor.proofs.placement.check.Goals as goal
 
-pub returns-in-err-room : goal.returns-in-err-room
-returns-in-err-room c =
+pub returns-in_err-room : goal.returns-in_err-room
+returns-in_err-room c =
     let l = c.args.list.now in
     let xs = c.args.levels.now in
-    let p = err_from_is_err_and c.from-residual.result c.from-residual.ensures.1 in
-    let why = room_lacks l.counts (length xs) _ (c.in-err-room.ensures ∙ ap (λ n. room n (length xs)) c.counts-counts.ensures) in
+    let p = err_from_is_err_and c.from_residual.result c.from_residual.ensures.1 in
+    let why = room_lacks l.counts (length xs) _ (c.in_err-room.ensures ∙ ap (λ n. room n (length xs)) c.counts-counts.ensures) in
     let answer = p.1 ∙ ap Err (p.2 ∙ ap Caller why.1) ∙ sym (checked_lacking l.counts (listed l) xs why.0) in
     record {
       answer = answer;
@@ -24,14 +24,14 @@ returns-in-err-room c =
       levels = sym (left_lacking l.counts (listed l) xs why.0);
     }
 
-pub first-uncovered-requires : goal.first-uncovered-requires
-first-uncovered-requires c =
+pub first_uncovered-requires : goal.first_uncovered-requires
+first_uncovered-requires c =
     let l = c.args.list.now in
     let n = c.counts-counts.result in
     let xs = c.args.levels.now in
-    let fits = room_fits n (length xs) c.in-ok-room.ensures in
+    let fits = room_fits n (length xs) c.in_ok-room.ensures in
     record {
-      sound = subst₂ (λ (a : Counts) b. Sound a b) (sym c.counts-counts.ensures) (sym c.as-slice.ensures) (sound_held l.counts (listed l) l.sound);
+      sound = subst₂ (λ (a : Counts) b. Sound a b) (sym c.counts-counts.ensures) (sym c.as_slice.ensures) (sound_held l.counts (listed l) l.sound);
       room = omega (arith, fits, ap length c.clear.ensures, cleared_length n xs);
       clear = c.clear.ensures ∙ cleared_clear n xs fits ∙ ap (tabled n []) (sym c.clear.ensures);
     }
@@ -41,11 +41,11 @@ returns-in-Some c =
     let l = c.args.list.now in
     let xs = c.args.levels.now in
     let found = c.in-Some.ensures in
-    let answer = settled_answer xs c.counts-counts.ensures c.as-slice.ensures c.clear.ensures c.in-ok-room.ensures found.answer in
+    let answer = settled_answer xs c.counts-counts.ensures c.as_slice.ensures c.clear.ensures c.in_ok-room.ensures found.answer in
     record {
       answer = answer;
       exact = subst (Judged l.counts (listed l) (length xs)) (sym answer) (judged l.counts (listed l) (sound_held l.counts (listed l) l.sound) (length xs));
-      levels = settled_levels xs c.counts-counts.ensures c.as-slice.ensures c.clear.ensures c.in-ok-room.ensures found.levels;
+      levels = settled_levels xs c.counts-counts.ensures c.as_slice.ensures c.clear.ensures c.in_ok-room.ensures found.levels;
     }
 
 pub returns-in-None : goal.returns-in-None
@@ -53,9 +53,9 @@ returns-in-None c =
     let l = c.args.list.now in
     let xs = c.args.levels.now in
     let found = c.in-None.ensures in
-    let answer = settled_answer xs c.counts-counts.ensures c.as-slice.ensures c.clear.ensures c.in-ok-room.ensures found.answer in
+    let answer = settled_answer xs c.counts-counts.ensures c.as_slice.ensures c.clear.ensures c.in_ok-room.ensures found.answer in
     record {
       answer = answer;
       exact = subst (Judged l.counts (listed l) (length xs)) (sym answer) (judged l.counts (listed l) (sound_held l.counts (listed l) l.sound) (length xs));
-      levels = settled_levels xs c.counts-counts.ensures c.as-slice.ensures c.clear.ensures c.in-ok-room.ensures found.levels;
+      levels = settled_levels xs c.counts-counts.ensures c.as_slice.ensures c.clear.ensures c.in_ok-room.ensures found.levels;
     }
