@@ -12,7 +12,7 @@ loop-other-init g c = (refl, offered_none)
 pub loop-other-preserved : goal.loop-other-preserved
 loop-other-preserved g c =
     let inv = c.loop-other.invariant in
-    let did = c.offer-named.ensures in
+    let did = c.offer_named.ensures in
     let n = c.loop-other.other in
     let f = λ (u : ℕ). if_named (named c.args.counts c.args.events.now c.args.index u c.args.levels.now) in
     let z : 0 + n ≡ n = omega arith in

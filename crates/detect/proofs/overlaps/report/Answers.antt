@@ -10,35 +10,35 @@ use Rattle.detect.specs.Offers.{none, OffersTo}
 use Rattle.detect.proofs.Meeting.{cleared_anew, levels_anew, reports_all}
 use Rattle.detect.proofs.overlaps.report.Goals as goal
 
-pub each-rise-requires : goal.each-rise-requires
-each-rise-requires g c =
+pub each_rise-requires : goal.each_rise-requires
+each_rise-requires g c =
     let l = c.args.list.now in
     let n = c.counts-counts.result in
-    let checks = c.in-ok-check.ensures in
+    let checks = c.in_ok-check.ensures in
     let anew = cleared_anew l.counts (listed l) c.args.levels.now c.check.new.levels _ checks.answer checks.levels in
     record {
-      sound = subst₂ (λ (a : Counts) b. Sound a b) (sym c.counts-counts.ensures) (sym c.as-slice.ensures) (sound_held l.counts (listed l) l.sound);
+      sound = subst₂ (λ (a : Counts) b. Sound a b) (sym c.counts-counts.ensures) (sym c.as_slice.ensures) (sound_held l.counts (listed l) l.sound);
       clear = c.clear.ensures ∙ subst (λ (d : Counts). cleared d c.check.new.levels ≡ tabled d [] (cleared d c.check.new.levels)) (sym c.counts-counts.ensures) anew ∙ ap (tabled n []) (sym c.clear.ensures);
     }
 
 pub returns : goal.returns
 returns g c =
     let l = c.args.list.now in
-    let checks = c.in-ok-check.ensures in
-    let did = c.each-rise.ensures in
+    let checks = c.in_ok-check.ensures in
+    let did = c.each_rise.ensures in
     let counts = c.counts-counts.ensures in
-    let events = c.as-slice.ensures in
+    let events = c.as_slice.ensures in
     let after = c.check.new.levels in
     record {
       answer = checks.answer;
       exact = checks.exact;
       levels =
           did.levels
-          ∙ ap (tabled c.counts-counts.result c.as-slice.result.now) c.clear.ensures
+          ∙ ap (tabled c.counts-counts.result c.as_slice.result.now) c.clear.ensures
           ∙ (λ i. tabled (counts i) (events i) (cleared (counts i) after))
           ∙ levels_anew l.counts (listed l) c.args.levels.now after _ checks.answer checks.levels;
       reports =
           reports_all g.O.Sink l.counts (listed l) (sound_held l.counts (listed l) l.sound) checks.exact.1 _ _ _ did.capacity
-          (subst₂ (λ (d : Counts) (L : List Event). OffersTo g.O.Sink c.args.sink.now none (reported d L) c.each-rise.new.sink c.each-rise.result) counts events did.offers);
+          (subst₂ (λ (d : Counts) (L : List Event). OffersTo g.O.Sink c.args.sink.now none (reported d L) c.each_rise.new.sink c.each_rise.result) counts events did.offers);
       kept = tt;
     }

@@ -12,7 +12,7 @@ loop-thread-init g c = (aside_none _, λ T r a. offered_as (sym (below_none T c.
 pub loop-thread-preserved : goal.loop-thread-preserved
 loop-thread-preserved g c =
     let inv = c.loop-thread.invariant in
-    let did = c.against-thread.ensures in
+    let did = c.against_thread.ensures in
     let n = c.loop-thread.thread in
     let counts = ap (λ (d : Counts). d.threads) c.counts.ensures in (
       aside_more inv.0 did.aside,

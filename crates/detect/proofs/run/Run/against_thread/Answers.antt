@@ -26,34 +26,34 @@ returns-then-thread-later g c =
           offered_as (sym same) offered_none;
     }
 
-pub returns-in-default : goal.returns-in-default
-returns-in-default g c = record {
+pub returns-in_default : goal.returns-in_default
+returns-in_default g c = record {
   aside = aside_none _;
   offers = λ T r a lt.
       let own = own_thread (g.S.Source.counts c.args.self.now.source.now) T c.args.later r.sound in
       let counts = g.K.Keeper.counts c.args.self.now.keeper.now in
       let same = ap (λ (n : Counts). n.threads) r.counts in
-      absurd (none_refused counts c.args.later.thread c.args.thread c.in-default.field-0 (omega (arith, own, same)) (omega (arith, lt, same)) c.in-default.ensures.undeclared_only);
+      absurd (none_refused counts c.args.later.thread c.args.thread c.in_default.field-0 (omega (arith, own, same)) (omega (arith, lt, same)) c.in_default.ensures.undeclared_only);
 }
 
-pub returns-then-is-write : goal.returns-then-is-write
-returns-then-is-write g c =
+pub returns-then-is_write : goal.returns-then-is_write
+returns-then-is_write g c =
     let one = c.against.ensures in
-    let two = c.against-then-is-write.ensures in
+    let two = c.against-then-is_write.ensures in
     let run = c.args.self.now in
     let j = c.args.later in
     record {
       aside = aside_more one.aside two.aside;
       offers = λ T r a lt.
           let known = answered (g.K.Keeper.counts run.keeper.now) (T ++ j ∷ []) j.thread c.args.thread c.in-Ok.known (c.in-Ok.ensures.answer (T ++ j ∷ []) r.told) in
-          let read = c.latest-of-read.ensures ∙ (λ i. get_or (one.aside.latest i).now (slot (g.S.Source.counts (one.aside.source i).now) Read c.args.thread j.number) None) in
-          let same = thread_same g.S.Source g.K.Keeper run T j c.args.thread c.in-Ok.known c.latest-of-write.result c.latest-of-read.result r a lt c.if-thread-later.false known c.latest-of-write.ensures read in
-          let both = ap (λ b. unless_below c.in-Ok.known j c.latest-of-write.result ++ cond b (unless_below c.in-Ok.known j c.latest-of-read.result) []) c.if-is-write.ensures in
+          let read = c.latest_of-read.ensures ∙ (λ i. get_or (one.aside.latest i).now (slot (g.S.Source.counts (one.aside.source i).now) Read c.args.thread j.number) None) in
+          let same = thread_same g.S.Source g.K.Keeper run T j c.args.thread c.in-Ok.known c.latest_of-write.result c.latest_of-read.result r a lt c.if-thread-later.false known c.latest_of-write.ensures read in
+          let both = ap (λ b. unless_below c.in-Ok.known j c.latest_of-write.result ++ cond b (unless_below c.in-Ok.known j c.latest_of-read.result) []) c.if-is_write.ensures in
           offered_as (both ∙ same) (offered_more one.offers one.aside.capacity two.offers);
     }
 
-pub returns-else-is-write : goal.returns-else-is-write
-returns-else-is-write g c =
+pub returns-else-is_write : goal.returns-else-is_write
+returns-else-is_write g c =
     let run = c.args.self.now in
     let j = c.args.later in
     record {
@@ -61,7 +61,7 @@ returns-else-is-write g c =
       offers = λ T r a lt.
           let known = answered (g.K.Keeper.counts run.keeper.now) (T ++ j ∷ []) j.thread c.args.thread c.in-Ok.known (c.in-Ok.ensures.answer (T ++ j ∷ []) r.told) in
           let read = get_or run.latest.now (slot (g.S.Source.counts run.source.now) Read c.args.thread j.number) None in
-          let same = thread_same g.S.Source g.K.Keeper run T j c.args.thread c.in-Ok.known c.latest-of-write.result read r a lt c.if-thread-later.false known c.latest-of-write.ensures refl in
-          let none = ap (λ b. unless_below c.in-Ok.known j c.latest-of-write.result ++ cond b (unless_below c.in-Ok.known j read) []) c.if-is-write.ensures in
+          let same = thread_same g.S.Source g.K.Keeper run T j c.args.thread c.in-Ok.known c.latest_of-write.result read r a lt c.if-thread-later.false known c.latest_of-write.ensures refl in
+          let none = ap (λ b. unless_below c.in-Ok.known j c.latest_of-write.result ++ cond b (unless_below c.in-Ok.known j read) []) c.if-is_write.ensures in
           offered_as (sym (append-nil _) ∙ none ∙ same) c.against.ensures.offers;
     }

@@ -18,6 +18,6 @@ returns-in-Ok g c =
       aside = record { source = refl; keeper = refl; latest = refl; lender = refl; capacity = took.same_capacity; ended = refl };
       offers =
           offered_as (sym (ap (λ b. cond b ((c.args.earlier, c.args.later) ∷ []) []) made.0))
-          (offered_taken (c.args.earlier, c.args.later) _ _ _ _ c.saturating-add-self.ensures c.saturating-add-self-in-Ok.ensures
+          (offered_taken (c.args.earlier, c.args.later) _ _ _ _ c.saturating_add-self.ensures c.saturating_add-self-in-Ok.ensures
           (taken_room _ _ _ took.answer) took.more (took.stepped ∙ (λ i. g.O.Sink.step (g.O.Sink.log was) (record { earlier = made.1 i; later = made.2 i }))));
     }

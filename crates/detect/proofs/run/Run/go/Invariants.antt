@@ -6,4 +6,4 @@ use Rattle.detect.proofs.run.Run.go.Given as goal
 abbrev pub invariant-loop-turn : goal.invariant-loop-turn
 invariant-loop-turn g l =
     Keeps g.S.Source g.K.Keeper g.O.Sink l.initial.self l.self
-    × (Going g.S.Source g.K.Keeper l.initial.self [] → l.initial.self.ended ≡ false → On g.S.Source g.K.Keeper g.O.Sink l.initial.self l.self l.-turn)
+    × (Going g.S.Source g.K.Keeper l.initial.self [] → l.initial.self.ended ≡ false → On g.S.Source g.K.Keeper g.O.Sink l.initial.self l.self l._turn)

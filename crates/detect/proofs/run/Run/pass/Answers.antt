@@ -5,12 +5,12 @@ use Rattle.detect.specs.Table.{slot}
 use Rattle.detect.proofs.Offering.{offered_none, offered_as}
 use Rattle.detect.proofs.run.Run.pass.Goals as goal
 
-pub returns-else-is-access : goal.returns-else-is-access
-returns-else-is-access g c =
+pub returns-else-is_access : goal.returns-else-is_access
+returns-else-is_access g c =
     let e = c.args.event in
     let run = c.args.self.now in
     let counts = counts_of g.S.Source run in
-    let no_access = c.if-is-access.ensures in
+    let no_access = c.if-is_access.ensures in
     record {
       source = refl;
       keeper = refl;

@@ -12,13 +12,13 @@ returns g c =
     let run = c.new.result in
     let lent = c.new.ensures.lent in
     let counts = c.counts-counts.ensures in
-    let cleared = c.in-ok-clear-for.ensures in
+    let cleared = c.in_ok-clear_for.ensures in
     let keeper = c.args.keeper.now in
     let latest = c.args.latest.now in
     record {
       answer = cleared.answer ∙ ap (λ d. starting d (length latest) (k.lacks keeper d)) counts;
       going =
-          going_begun s k run c.counts-counts.result keeper c.clear-for.new.keeper latest c.clear-for.new.latest
+          going_begun s k run c.counts-counts.result keeper c.clear_for.new.keeper latest c.clear_for.new.latest
           (ap (λ r. s.counts r.now) lent.0 ∙ sym counts) (ap (λ r. r.now) lent.1) (ap (λ r. r.now) lent.2) cleared.cleared;
       keeper = (ap (λ r. k.capacity r.now) lent.1 ∙ cleared.cleared.capacity, λ d. ap (λ r. k.lacks r.now d) lent.1 ∙ cleared.cleared.tables d);
       latest = ap (λ r. r.now) lent.2 ∙ cleared.cleared.cleared_table ∙ ap (λ (d : Counts). clearing (size d) None latest) counts;

@@ -55,8 +55,8 @@ returns-in-Ok g c =
     let ready = ready_next was hands.hands hands.keeps tells.same_counts tells.more refl passes in
     record {
       keeps = record {
-        source_lender = ap (λ r. r.name) passes.source;
-        keeper_lender = ap (λ r. r.name) passes.keeper;
+        source_lender = ap (λ r. r.ghost_name) passes.source;
+        keeper_lender = ap (λ r. r.ghost_name) passes.keeper;
         latest_lender = passes.latest_lender;
         sink_lender = passes.sink_lender;
         counts = ap (λ r. g.S.Source.counts r.now) passes.source ∙ hands.keeps;

@@ -1,6 +1,6 @@
 use Rattle.std.proofs.Common.{◌≡◌, cond, [], ◌∷◌, sym, refl, ap, ◌∙◌}
 use Rattle.detect.proofs.Offering.{offered_none, offered_as, offered_taken, taken_room}
-use Rattle.detect.proofs.totals.Totals.find.Goals as goal
+use Rattle.detect.proofs.run.Totals.find.Goals as goal
 
 pub returns-in-None : goal.returns-in-None
 returns-in-None g c = record {
@@ -17,6 +17,6 @@ returns-in-Ok g c =
       capacity = took.same_capacity;
       offers =
           offered_as (sym (ap (λ b. cond b ((c.args.earlier, c.args.later) ∷ []) []) made.0))
-          (offered_taken (c.args.earlier, c.args.later) _ _ _ _ c.saturating-add-self.ensures c.saturating-add-self-in-Ok.ensures
+          (offered_taken (c.args.earlier, c.args.later) _ _ _ _ c.saturating_add-self.ensures c.saturating_add-self-in-Ok.ensures
           (taken_room _ _ _ took.answer) took.more (took.stepped ∙ (λ i. g.O.Sink.step (g.O.Sink.log was) (record { earlier = made.1 i; later = made.2 i }))));
     }
