@@ -12,8 +12,8 @@ use Rattle.output.proofs.races.list_of.Goals as goal
 
 pub told-requires : goal.told-requires
 told-requires c =
-    let w = c.in-Ok-run-all.ensures.ran in
-    let t = c.in-Ok-run-all.totals in
+    let w = c.in-Ok-run_all.ensures.ran in
+    let t = c.in-Ok-run_all.totals in
     let s = c.new-sink.result in
     let cap : room s ≡ 3000 = c.new-sink.ensures.capacity in
     let none : filled s ≡ 0 = c.new-sink.ensures.taken in
@@ -23,20 +23,20 @@ told-requires c =
     (ap (λ (x : Written). x.lines) c.new-sink.ensures.written) w.ran c.back.ensures.bytes in
     l.shown.fits
 
-pub returns-in-Err-run-all : goal.returns-in-Err-run-all
-returns-in-Err-run-all c =
+pub returns-in-Err-run_all : goal.returns-in-Err-run_all
+returns-in-Err-run_all c =
     let k = c.in-Ok.keeper in
     let e = c.events-events.result.counts in
     let same = c.in-Ok.ensures.counts ∙ c.counts.ensures ∙ sym c.events-events.ensures.counts in
     let told = c.in-Ok.ensures.told in
-    not_refused c.in-Err-run-all.f e _ _ (few_latest e)
+    not_refused c.in-Err-run_all.f e _ _ (few_latest e)
     (no_lack e _ _ (subst (λ (d : Counts). d.threads ≤ length k.threads.now) same told.threads_fit) (subst (λ d. slots d ≤ length k.objects.now) same told.objects_fit))
-    c.in-Err-run-all.ensures.answer
+    c.in-Err-run_all.ensures.answer
 
-pub returns-in-Ok-run-all : goal.returns-in-Ok-run-all
-returns-in-Ok-run-all c =
-    let w = c.in-Ok-run-all.ensures.ran in
-    let t = c.in-Ok-run-all.totals in
+pub returns-in-Ok-run_all : goal.returns-in-Ok-run_all
+returns-in-Ok-run_all c =
+    let w = c.in-Ok-run_all.ensures.ran in
+    let t = c.in-Ok-run_all.totals in
     let s = c.new-sink.result in
     let cap : room s ≡ 3000 = c.new-sink.ensures.capacity in
     let none : filled s ≡ 0 = c.new-sink.ensures.taken in

@@ -7,4 +7,4 @@ use Rattle.output.proofs.races.list_races.Goals as goal
 
 pub returns-in-Ok : goal.returns-in-Ok
 returns-in-Ok c =
-    made_each c.list-of.result (λ a. answered c.args.input.now (contents_of c.in-Ok.t) (said a) (omega arith) c.in-Ok.ensures.value) c.list-of.ensures
+    made_each c.list_of.result (λ a. answered c.args.input.now (contents_of c.in-Ok.t) (said a) (omega arith) c.in-Ok.ensures.value) c.list_of.ensures
