@@ -154,7 +154,8 @@ fn the_lines(rt: HostRuntime) -> Result<(), Fail> {
         totals(3, 3, 0)
     );
     assert!(rt;
-        &lines[0..63] == b"000003 000005 000 wr\n000007 000009 000 ww\n000005 000009 000 rw\n"
+        &lines[0..63]
+            == b"000003 000005 000 wr\n000007 000009 000 ww\n000005 000009 000 rw\n".as_slice()
     );
     assert!(rt; lines[63] == b'.', "the space behind stays");
     Ok(())
