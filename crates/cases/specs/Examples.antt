@@ -1,7 +1,7 @@
 -- Small traces, each for one thing that a checker can get wrong. An event is written as its thread, its letter and its number; places are the indices.
 use Rattle.std.specs.Prelude.{ℕ, suc, List, [], ◌∷◌}
 use Rattle.event.specs.declared.letter.Letter.{Letter}
-use Rattle.event.specs.declared.letter.Letter.TheVariants.{Read, Write, Acquire, Release, Fork, Join, Begin, End, Strong, Weak, Downgrade, Stop}
+use Rattle.event.specs.declared.letter.Letter.TheVariants.{Read, Write, Acquire, Release, Fork, Begin, Strong, Weak, Stop}
 use Rattle.event.specs.declared.record.Event.{Event}
 
 -- a thread, a letter and a number

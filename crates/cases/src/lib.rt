@@ -1,3 +1,5 @@
+#![tactic(auto)]
+
 // Tests by table: trace files written as short scripts, and what must come of them.
 #[cfg(test)]
 mod keepers;

@@ -1,5 +1,5 @@
 -- What the test of a finding says.
-use Rattle.std.proofs.Common.{◌≡◌, ◌<◌, ◌≤◌, true, not, ◌&&◌, ◌||◌, eqb, ltb, leb}
+use Rattle.std.proofs.Common.{◌≡◌, ◌<◌, ◌≤◌, true, not, ◌||◌, eqb, ltb, leb}
 use Rattle.std.proofs.lemmas.Bool.{and_parts, and_from, not-true, not_from_false, ltb-true, leb-true, eqb-true, eqb-false, lt-ltb, le-leb, eq-eqb, ne_eqb}
 use Rattle.event.specs.declared.record.Event.{Event}
 use Rattle.finds.specs.Latest.{is_write_letter}

@@ -1,8 +1,7 @@
 -- The law of a whole run, from what its steps did.
-use Rattle.std.proofs.Common.{◌≡◌, ℕ, ◌+◌, ◌-◌, ◌*◌, ◌≤◌, min, List, [], ◌++◌, length, take, drop, fold, sym, refl, ap, ◌∙◌, subst, ⊎_elim, arith}
+use Rattle.std.proofs.Common.{◌≡◌, ℕ, ◌+◌, ◌-◌, ◌*◌, ◌≤◌, min, List, ◌++◌, length, take, drop, fold, sym, ap, ◌∙◌, subst, arith}
 use mathlib.Core.List.{Memᴰ}
-use Rattle.std.proofs.lemmas.List.{length-take, take-append-drop, take_all, take-take}
-use Rattle.std.proofs.lemmas.Bool.{cases_lt}
+use Rattle.std.proofs.lemmas.List.{length-take, take-append-drop}
 use Rattle.event.specs.declared.counts.Counts.{Counts}
 use Rattle.event.specs.declared.record.Event.{Event}
 use Rattle.event.specs.Order.{◌∈◌, Within, Chain, Race}
@@ -12,13 +11,13 @@ use Rattle.finds.specs.Found.{found_all}
 use Rattle.finds.proofs.Exact.{findings_exact}
 use Rattle.finds.proofs.Pushes.{found_few}
 use Rattle.order.specs.Finds.{Alike}
-use Rattle.order.specs.Runs.{Two, Finds, Lists, Reported, Ran}
+use Rattle.order.specs.Runs.{Finds, Lists, Reported}
 use Rattle.order.proofs.Finding.{each_race_found, runs_find_more, ordered_never}
 use Rattle.order.proofs.Thinning.{thins_self}
 use Rattle.keeper.specs.declared.keeper.Keeper.{Ghosts as Keeping}
 use Rattle.sink.specs.declared.sink.Sink.{Ghosts as Sinking}
 use Rattle.source.specs.declared.source.Source.{Ghosts as Giving}
-use Rattle.detect.specs.Offers.{most, Offered}
+use Rattle.detect.specs.Offers.{most}
 use Rattle.detect.specs.Pairs.{pair_of}
 use Rattle.detect.specs.Steps.{counts_of, rest_of, Keeps}
 use Rattle.detect.specs.Whole.{Goes, Whole}

@@ -1,12 +1,11 @@
 -- What is offered against one thread is what is found against it: the table's accesses conflict with the one that was just told.
-use Rattle.std.proofs.Common.{◌≡◌, ℕ, ◌<◌, ◌≤◌, Bool, true, false, cond, ◌||◌, eqb, ltb, leb, List, [], ◌∷◌, ◌++◌, Some, None, Option, sym, refl, ap, ◌∙◌, subst, arith}
-use Rattle.std.proofs.lemmas.Bool.{false≢true, both_ways, ltb-true, ltb-false, le-leb, lt-leb, ne_eqb, or_left, or_right}
+use Rattle.std.proofs.Common.{◌≡◌, ℕ, ◌<◌, Bool, true, false, cond, ◌||◌, ltb, leb, List, [], ◌∷◌, ◌++◌, Some, None, Option, sym, refl, ap, ◌∙◌, arith}
+use Rattle.std.proofs.lemmas.Bool.{false≢true, ltb-true, ltb-false, le-leb, lt-leb, ne_eqb, or_left, or_right}
 use Rattle.std.specs.List.{AllByRecursion}
 use Rattle.event.specs.declared.counts.Counts.{Counts}
 use Rattle.event.specs.declared.letter.Letter.{Letter}
 use Rattle.event.specs.declared.letter.Letter.TheVariants.{Read, Write, Acquire, Release, Fork, Join, Begin, End, Strong, Weak, Downgrade, Stop}
 use Rattle.event.specs.declared.record.Event.{Event}
-use Rattle.event.specs.Order.{◌∈◌}
 use Rattle.event.specs.Ranges.{limit}
 use Rattle.event.specs.Thins.{accesses, access, Placed, Sound}
 use Rattle.finds.specs.Found.{unless_known, against, against_one}
@@ -16,7 +15,7 @@ use Rattle.order.specs.Runs.{Two}
 use Rattle.order.proofs.Front.{rising_front}
 use Rattle.order.proofs.Newest.{older}
 use Rattle.detect.specs.Pairs.{conflicting}
-use Rattle.detect.specs.Reports.{if_conflicting, unless_below}
+use Rattle.detect.specs.Reports.{unless_below}
 use Rattle.detect.proofs.Conflicts.{true_conflicting}
 
 pub every_last : {X : Type 0} (P : X → Type 0) (L : List X) (x : X) → AllByRecursion P (L ++ x ∷ []) → P x

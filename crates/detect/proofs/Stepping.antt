@@ -7,7 +7,7 @@ use Rattle.event.specs.declared.fault.CallerFault.{CallerFault}
 use Rattle.event.specs.declared.fault.CallerFault.TheVariants.{Range, Place, Full}
 use Rattle.event.specs.declared.record.Event.{Event}
 use Rattle.event.specs.Ranges.{limit, in_range}
-use Rattle.event.specs.Thins.{access, Rising, Placed, Sound}
+use Rattle.event.specs.Thins.{Rising, Placed, Sound}
 use Rattle.event.proofs.Sounds.{sound_front, sound_first}
 use Rattle.keeper.specs.Telling.{last_place, follows, telling}
 use Rattle.keeper.specs.declared.keeper.Keeper.{Ghosts as Keeping}

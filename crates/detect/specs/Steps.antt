@@ -1,5 +1,5 @@
 -- What a step of a run does.
-use Rattle.std.specs.Prelude.{◌≡◌, ℕ, true, false, List, [], ◌∷◌, ◌++◌, length, drop}
+use Rattle.std.specs.Prelude.{◌≡◌, true, false, List, [], ◌∷◌, ◌++◌, length, drop}
 use Rattle.event.specs.declared.counts.Counts.{Counts}
 use Rattle.event.specs.declared.fault.CallerFault.TheVariants.{Full}
 use Rattle.event.specs.declared.record.Event.{Event}

@@ -14,7 +14,7 @@ use Rattle.source.specs.declared.source.Source.{Ghosts as Giving}
 use Rattle.stamp.specs.Tables.{cleared}
 use Rattle.detect.specs.Pairs.{pair_of}
 use Rattle.detect.specs.Reports.{Offers}
-use Rattle.detect.specs.Steps.{counts_of, rest_of, Going, Keeps}
+use Rattle.detect.specs.Steps.{counts_of, rest_of}
 use Rattle.detect.specs.Table.{size}
 use Rattle.detect.specs.declared.run.Run.{Run}
 use Rattle.detect.specs.declared.run.Totals.{Totals}

@@ -1,4 +1,6 @@
 // Findings that are owed, and the runs that make them.
+#![tactic(auto)]
+
 pub mod finding;
 pub mod latest;
 pub mod overlaps;

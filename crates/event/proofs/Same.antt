@@ -1,5 +1,5 @@
 -- Counts are the same where the three numbers are.
-use Rattle.std.proofs.Common.{◌≡◌, ℕ, ◌≤◌, min, max, true, cond, leb, Ok, Err, sym, refl, ap, ◌∙◌, arith}
+use Rattle.std.proofs.Common.{◌≡◌, ℕ, ◌≤◌, cond, Ok, Err, sym, ap, ◌∙◌, arith}
 use mathlib.Core.HLevel.{is_prop→PathP}
 use native.Mathlib.Bridge.{le_prop}
 use Rattle.std.proofs.lemmas.Bool.{le-leb}

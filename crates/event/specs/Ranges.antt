@@ -1,5 +1,5 @@
 -- Counts within their limits, and which threads and numbers are in range under them.
-use Rattle.std.specs.Prelude.{ℕ, ◌≤◌, min, max, Bool, false, cond, Ok, Err, Result, nat_le, nat_lt}
+use Rattle.std.specs.Prelude.{ℕ, min, max, Bool, false, cond, Ok, Err, Result, nat_le, nat_lt}
 use Rattle.std.proofs.Common.{arith}
 use Rattle.event.specs.declared.counts.Counts.{Counts}
 use Rattle.event.specs.declared.fault.CallerFault.{CallerFault}

@@ -1,4 +1,6 @@
 // The words of a trace: events, what they acquire and release, how many threads, objects and variables there are, and the faults of a caller.
+#![tactic(auto)]
+
 pub mod access;
 pub mod code;
 pub mod counts;

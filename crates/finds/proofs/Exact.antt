@@ -1,5 +1,5 @@
 -- The list of findings has exactly the races.
-use Rattle.std.proofs.Common.{◌≡◌, ℕ, ◌<◌, ◌≤◌, Bool, true, ◌⊎◌, ◌↔◌, List, [], ◌∷◌, ◌++◌, Some, None, Option, sym, refl, ap, ◌∙◌, subst, inl, inr, ⊎_elim, arith}
+use Rattle.std.proofs.Common.{◌≡◌, ℕ, ◌<◌, ◌≤◌, Bool, true, ◌⊎◌, ◌↔◌, List, [], ◌∷◌, ◌++◌, Some, Option, sym, refl, ap, ◌∙◌, subst, inl, inr, ⊎_elim, arith}
 use mathlib.Core.List.Memᴰ
 use mathlib.Core.List.{Memᴰ}
 use native.Mathlib.Decide.{dec_lt}
@@ -10,11 +10,10 @@ use Rattle.event.specs.declared.letter.Letter.{Letter}
 use Rattle.event.specs.declared.letter.Letter.TheVariants.{Read, Write}
 use Rattle.event.specs.declared.record.Event.{Event}
 use Rattle.event.specs.Entries.{LatestOf}
-use Rattle.event.specs.Order.{◌∈◌, Within, Chain, Access, reads, writes, Conflict, Race}
+use Rattle.event.specs.Order.{◌∈◌, Within, Chain, Access, reads, writes}
 use Rattle.event.specs.Thins.{Rising, Placed, Sound, accesses, access, Thins}
 use Rattle.event.proofs.Thinning.{access_true}
 use Rattle.order.specs.Finds.{Alike}
-use Rattle.order.specs.Marks.{entry}
 use Rattle.order.specs.Runs.{Two, Finds, Lists}
 use Rattle.order.proofs.Front.{same_place, before_each, place_once, chain_front_iff, rising_front}
 use Rattle.order.proofs.Newest.{newest_in, old_or_new, older}
@@ -24,7 +23,7 @@ use Rattle.finds.specs.Latest.{is_write_letter, is_read, touches, latest}
 use Rattle.finds.specs.Found.{found_at, found_after, found_all}
 use Rattle.finds.proofs.Latests.{write_is, read_is, Touches, touches_true, true_touches, Last, none, some, latest_last}
 use Rattle.finds.proofs.Orders.{order_after}
-use Rattle.finds.proofs.Rivals.{Unknown, Rival, Below, known_of, at_has}
+use Rattle.finds.proofs.Rivals.{Unknown, Rival, known_of, at_has}
 
 -- j comes right after `past` in the source's list, of which W has all events and perhaps more accesses
 module _ (W past rest : List Event) (j : Event) (r : Rising ((past ++ j ∷ []) ++ rest)) (t : Thins W ((past ++ j ∷ []) ++ rest)) where

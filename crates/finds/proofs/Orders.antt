@@ -1,5 +1,5 @@
 -- The list of findings is in order.
-use Rattle.std.proofs.Common.{◌≡◌, ℕ, zero, suc, ◌<◌, Bool, true, false, cond, eqb, ltb, List, [], ◌∷◌, ◌++◌, Some, None, Option, sym, refl, ◌∙◌, subst, ⊎_elim, arith}
+use Rattle.std.proofs.Common.{◌≡◌, ℕ, zero, suc, Bool, true, false, cond, eqb, ltb, List, [], ◌∷◌, ◌++◌, Some, None, Option, sym, refl, ◌∙◌, subst, ⊎_elim, arith}
 use mathlib.Core.List.Memᴰ
 use mathlib.Core.List.{Memᴰ}
 use Rattle.event.specs.declared.record.Event.{Event}
@@ -12,7 +12,7 @@ use Rattle.std.proofs.lemmas.List.{append_assoc}
 use Rattle.finds.specs.Latest.{is_write_letter, is_read, latest}
 use Rattle.finds.specs.Found.{unless_known, against, against_one, against_below, found_at, found_after}
 use Rattle.finds.proofs.Latests.{write_is, read_is, looked_up}
-use Rattle.finds.proofs.Rivals.{Unknown, Rival, Below, known_of, unless_has, thread_has, below_has, at_has}
+use Rattle.finds.proofs.Rivals.{Unknown, Rival, known_of, unless_has, thread_has, below_has, at_has}
 
 before_append : (a : Two) (fs gs : List Two) → BeforeAll a fs → ((b : Two) → Memᴰ b gs → Sooner a b) → BeforeAll a (fs ++ gs)
 before_append a [] [] h k = tt

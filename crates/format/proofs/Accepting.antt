@@ -1,5 +1,5 @@
 -- Events that the rules accept one after another.
-use Rattle.std.proofs.Common.{◌≡◌, Bool, true, false, cond, List, [], ◌∷◌, Ok, Err, Result, sym, refl, ap, ◌∙◌}
+use Rattle.std.proofs.Common.{◌≡◌, true, cond, List, [], ◌∷◌, Ok, Err, ◌∙◌}
 use Rattle.event.specs.declared.record.Event.{Event}
 use Rattle.format.specs.declared.kinds.ObjectKind.{ObjectKind}
 use Rattle.format.specs.declared.fault.OrderFault.{OrderFault}

@@ -15,7 +15,7 @@ use Rattle.format.specs.declared.fault.OrderFault.TheVariants.{Events}
 use Rattle.format.specs.Parse.{map_ok, lift, and_then}
 use Rattle.format.specs.Events.{letter_at, judged, event_body, read_event, got_event, got_events}
 use Rattle.format.specs.Standings.{Standing, stepped, ruled_from}
-use Rattle.format.proofs.Steps.{err_ok, ok_ok, then_ok, lift_then_ok, map_ok_parts, if_ok, either_ok}
+use Rattle.format.proofs.Steps.{err_ok, ok_ok, then_ok, lift_then_ok, map_ok_parts}
 
 abbrev pub verdict : Result (List Event) OrderFault → Result (Unit {0}) OrderFault
 verdict r = map_ok (λ _. tt) r

@@ -1,5 +1,5 @@
 -- The encoding of lawful contents is read as these.
-use Rattle.std.proofs.Common.{◌≡◌, ℕ, zero, suc, ◌+◌, ◌*◌, ◌/◌, ◌%◌, ◌<◌, ◌≤◌, Bool, true, false, cond, eqb, ltb, leb, List, [], ◌∷◌, ◌++◌, map, length, get_or, take, drop, Some, None, Ok, Err, Result, sym, refl, ap, ◌∙◌, subst, append_assoc, arith, length-append}
+use Rattle.std.proofs.Common.{◌≡◌, ℕ, suc, ◌+◌, ◌*◌, ◌/◌, ◌%◌, ◌≤◌, Bool, true, false, cond, eqb, ltb, leb, List, [], ◌∷◌, ◌++◌, length, take, drop, Some, Ok, Err, Result, sym, refl, ap, ◌∙◌, append_assoc, arith, length-append}
 use native.Mathlib.Nat.{div-add-mod}
 use Rattle.std.specs.List.{flat_map, AllByRecursion}
 use Rattle.std.specs.Option.{ok_or}
@@ -11,12 +11,10 @@ use Rattle.event.specs.declared.record.Event.{Event}
 use Rattle.event.specs.declared.counts.Counts.{Counts}
 use Rattle.event.specs.Ranges.{limit, in_range}
 use Rattle.event.specs.Thins.{access}
-use Rattle.format.specs.declared.fault.ByteFault.TheVariants.{Ends, Magic}
-use Rattle.format.specs.declared.fault.SectionFault.{SectionFault}
-use Rattle.format.specs.declared.fault.SectionFault.TheVariants.{Bytes, Entry, Count, Left}
+use Rattle.format.specs.declared.fault.ByteFault.TheVariants.{Ends}
+use Rattle.format.specs.declared.fault.SectionFault.TheVariants.{Bytes, Entry, Count}
 use Rattle.format.specs.declared.fault.EventFault.{EventFault}
 use Rattle.format.specs.declared.fault.EventFault.TheVariants.{Letter as NoLetter, Range, Region, Sections}
-use Rattle.format.specs.declared.fault.OrderFault.{OrderFault}
 use Rattle.format.specs.declared.fault.OrderFault.TheVariants.{Events}
 use Rattle.format.specs.declared.kinds.SectionKind.{SectionKind}
 use Rattle.format.specs.declared.kinds.SectionKind.TheVariants.{Threads, Objects, Variables}
@@ -25,7 +23,7 @@ use Rattle.format.specs.declared.kinds.ObjectKind.TheVariants.{Mutex, Semaphore}
 use Rattle.format.specs.Parse.{map_ok, lift, and_then, here, take_from, two_from, four_from}
 use Rattle.format.specs.Names.{within, all_good_bytes, name_from}
 use Rattle.format.specs.Items.{Item, thread, object, variable, named, item_from, items_from, cons_item, section_body, section_from}
-use Rattle.format.specs.Codes.{two, four, code_name, code_kind, code_item, code_section, code_letter, code_event}
+use Rattle.format.specs.Codes.{two, four, code_name, code_item, code_section, code_letter, code_event}
 use Rattle.format.specs.Events.{letter_at, judged, event_body, read_event}
 use Rattle.format.specs.Standings.{Standing, stepped, moved, fresh, ruled_from, kind_of, kinds_of, kind_at, kind_table}
 use Rattle.format.specs.Layout.{magic_body, magic_from, block_body, block_from, laid_as, with_variables, with_objects, with_threads, with_magic, layout}

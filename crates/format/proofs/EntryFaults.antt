@@ -1,11 +1,10 @@
 -- What is wrong with an entry that is refused.
-use Rattle.std.proofs.Common.{◌≡◌, ℕ, zero, suc, ◌+◌, ◌-◌, ◌<◌, ◌≤◌, Bool, true, false, cond, eqb, leb, ◌⊎◌, List, [], ◌∷◌, ◌++◌, length, take, drop, replicate, Ok, Err, Result, sym, refl, ap, ◌∙◌, subst, inl, inr, ⊎_elim, append_assoc, add-zero, arith, length-append}
+use Rattle.std.proofs.Common.{◌≡◌, ℕ, zero, suc, ◌+◌, ◌-◌, ◌<◌, ◌≤◌, Bool, true, false, cond, eqb, leb, ◌⊎◌, List, [], ◌∷◌, ◌++◌, length, take, drop, replicate, Ok, Err, sym, refl, ap, ◌∙◌, subst, inl, inr, ⊎_elim, append_assoc, add-zero, arith, length-append}
 use mathlib.Core.Bool.{false≢true}
 use lib.ListN.{length-replicate}
 use Rattle.std.specs.List.{flat_map, AllByRecursion}
-use Rattle.std.proofs.lemmas.Bool.{leb-true, leb-false, eqb-true, eqb-false}
+use Rattle.std.proofs.lemmas.Bool.{leb-false, eqb-true, eqb-false}
 use Rattle.std.proofs.lemmas.List.{take_all}
-use Rattle.format.specs.declared.fault.ByteFault.{ByteFault}
 use Rattle.format.specs.declared.fault.ByteFault.TheVariants.{Ends}
 use Rattle.format.specs.declared.fault.SectionFault.{SectionFault}
 use Rattle.format.specs.declared.fault.SectionFault.TheVariants.{Bytes, Entry}
@@ -13,9 +12,9 @@ use Rattle.format.specs.declared.kinds.SectionKind.{SectionKind}
 use Rattle.format.specs.declared.kinds.SectionKind.TheVariants.{Threads, Objects, Variables}
 use Rattle.format.specs.declared.kinds.ObjectKind.{ObjectKind}
 use Rattle.format.specs.declared.kinds.ObjectKind.TheVariants.{Mutex, Semaphore}
-use Rattle.format.specs.Parse.{map_ok, lift, and_then, here, byte_from, take_from}
-use Rattle.format.specs.Names.{within, all_good_bytes, name_body, name_from}
-use Rattle.format.specs.Items.{Item, thread, object, variable, named, object_body, item_from, items_from, cons_item}
+use Rattle.format.specs.Parse.{map_ok, lift, here}
+use Rattle.format.specs.Names.{within, all_good_bytes, name_from}
+use Rattle.format.specs.Items.{Item, thread, object, variable, named, item_from, items_from, cons_item}
 use Rattle.format.specs.Codes.{code_name, code_kind, code_item}
 use Rattle.format.specs.Encode.{GoodName, Good}
 use Rattle.format.specs.Refusals.{Meets, Cut, Bad, EntryFault, cut, bad}

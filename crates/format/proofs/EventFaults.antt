@@ -1,9 +1,9 @@
 -- What is wrong with an event that is refused, and with the first such event of a file.
-use Rattle.std.proofs.Common.{◌≡◌, ℕ, zero, suc, ◌+◌, ◌*◌, ◌<◌, ◌≤◌, Bool, true, false, cond, eqb, ltb, ◌⊎◌, ◌↔◌, List, [], ◌∷◌, ◌++◌, length, get_or, drop, Some, None, Ok, Err, Option, Result, sym, refl, ap, ◌∙◌, subst, inl, inr, ⊎_elim, append_assoc, append-nil, add-zero, arith}
+use Rattle.std.proofs.Common.{◌≡◌, ℕ, zero, suc, ◌+◌, ◌*◌, ◌<◌, ◌≤◌, true, false, cond, eqb, List, [], ◌∷◌, ◌++◌, length, drop, Some, None, Ok, Err, Option, Result, sym, refl, ap, ◌∙◌, subst, ⊎_elim, append_assoc, append-nil, add-zero, arith}
 use mathlib.Core.Bool.{false≢true}
 use Rattle.std.specs.List.{flat_map, AllByRecursion}
 use Rattle.std.specs.Option.{ok_or}
-use Rattle.std.proofs.lemmas.Bool.{lt-ltb, eqb-true, eqb-false}
+use Rattle.std.proofs.lemmas.Bool.{lt-ltb, eqb-false}
 use Rattle.std.proofs.lemmas.List.{length-drop}
 use Rattle.event.specs.declared.letter.Letter.{Letter}
 use Rattle.event.specs.declared.record.Event.{Event}
@@ -16,14 +16,13 @@ use Rattle.format.specs.declared.fault.EventFault.{EventFault as Fault}
 use Rattle.format.specs.declared.fault.EventFault.TheVariants.{Letter as NoLetter, Range, Region}
 use Rattle.format.specs.declared.fault.OrderFault.{OrderFault}
 use Rattle.format.specs.declared.fault.OrderFault.TheVariants.{Events, Mutex as BadMutex, Life as BadLife}
-use Rattle.format.specs.Parse.{map_ok, lift, and_then}
+use Rattle.format.specs.Parse.{map_ok, and_then}
 use Rattle.format.specs.Events.{letter_at, judged, event_body, read_event}
-use Rattle.format.specs.Codes.{two, code_letter, code_event}
-use Rattle.format.specs.Rules.{Life, Exclusive}
+use Rattle.format.specs.Codes.{code_letter, code_event}
 use Rattle.format.specs.Standings.{Standing, kind_at, lives, locks, moved, stepped, ruled_from}
 use Rattle.format.specs.Encode.{GoodEvent, Numbered, AllBytes}
 use Rattle.format.specs.Refusals.{EventFault, letter, range, region, life, mutex}
-use Rattle.format.proofs.Steps.{ok_err, err_err, err_ok, then_err, lift_then_err, map_err, either_err, ok_or_ok}
+use Rattle.format.proofs.Steps.{ok_err, err_err, then_err, lift_then_err, map_err, either_err, ok_or_ok}
 use Rattle.format.proofs.Inverse.{two_digits, every_rest}
 use Rattle.format.proofs.EventsInverse.{in_range_means, letter_sound, event_sound}
 use Rattle.format.proofs.Complete.{letter_complete}

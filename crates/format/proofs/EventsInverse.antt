@@ -1,5 +1,5 @@
 -- Events that were read are what their bytes say.
-use Rattle.std.proofs.Common.{◌≡◌, ℕ, zero, suc, ◌+◌, ◌*◌, ◌<◌, ◌≤◌, Bool, true, false, cond, eqb, ltb, List, [], ◌∷◌, ◌++◌, length, get_or, drop, Some, None, Ok, Err, Option, Result, sym, refl, ap, ◌∙◌, subst, arith}
+use Rattle.std.proofs.Common.{◌≡◌, ℕ, zero, suc, ◌+◌, ◌*◌, ◌<◌, ◌≤◌, Bool, true, false, cond, eqb, ltb, List, [], ◌∷◌, ◌++◌, length, drop, Some, None, Ok, Err, Option, sym, refl, ap, ◌∙◌, subst, arith}
 use Rattle.std.specs.List.{flat_map, AllByRecursion}
 use Rattle.std.specs.Option.{ok_or}
 use Rattle.std.proofs.lemmas.Bool.{ltb-true, eqb-true}
@@ -15,10 +15,10 @@ use Rattle.format.specs.declared.fault.EventFault.{EventFault}
 use Rattle.format.specs.declared.fault.EventFault.TheVariants.{Letter as NoLetter, Range, Region}
 use Rattle.format.specs.declared.fault.OrderFault.{OrderFault}
 use Rattle.format.specs.Events.{letter_at, judged, event_body, read_event}
-use Rattle.format.specs.Standings.{Standing, moved, ruled_from}
-use Rattle.format.specs.Codes.{two, code_letter, code_event}
+use Rattle.format.specs.Standings.{Standing, ruled_from}
+use Rattle.format.specs.Codes.{code_letter, code_event}
 use Rattle.format.specs.Encode.{GoodEvent, Numbered, AllBytes}
-use Rattle.format.proofs.Steps.{err_ok, ok_ok, then_ok, if_ok, ok_or_ok}
+use Rattle.format.proofs.Steps.{ok_ok, then_ok, if_ok, ok_or_ok}
 use Rattle.format.proofs.Inverse.{two_digits, every_rest}
 use Rattle.format.proofs.Checks.{ruled_more}
 use Rattle.format.proofs.Accepting.{Accepts, stepped_ok}

@@ -1,13 +1,11 @@
 -- A file that is refused is refused for its first fault.
-use Rattle.std.proofs.Common.{◌≡◌, ℕ, ◌+◌, ◌-◌, ◌*◌, ◌<◌, ◌≤◌, Bool, true, false, cond, leb, ◌⊎◌, List, [], ◌∷◌, ◌++◌, map, length, take, drop, Ok, Err, Result, sym, refl, ap, ◌∙◌, subst, inl, inr, ⊎_elim, zero-le, zero-add, arith, length-append}
+use Rattle.std.proofs.Common.{◌≡◌, ℕ, ◌+◌, ◌-◌, ◌<◌, ◌≤◌, leb, List, [], ◌++◌, length, take, drop, Ok, Err, sym, ap, ◌∙◌, subst, ⊎_elim, zero-le, zero-add, arith, length-append}
 use mathlib.Core.Bool.{false≢true}
-use Rattle.std.specs.List.{flat_map}
-use Rattle.std.proofs.lemmas.Bool.{leb-true, leb-false}
+use Rattle.std.proofs.lemmas.Bool.{leb-false}
 use Rattle.std.proofs.lemmas.List.{length-map}
 use Rattle.event.specs.declared.record.Event.{Event}
 use Rattle.event.specs.declared.counts.Counts.{Counts}
 use Rattle.format.specs.declared.kinds.ObjectKind.{ObjectKind}
-use Rattle.format.specs.declared.kinds.SectionKind.{SectionKind}
 use Rattle.format.specs.declared.kinds.SectionKind.TheVariants.{Threads, Objects, Variables}
 use Rattle.format.specs.declared.fault.ByteFault.{ByteFault}
 use Rattle.format.specs.declared.fault.ByteFault.TheVariants.{Ends, Magic}
@@ -16,12 +14,12 @@ use Rattle.format.specs.declared.fault.SectionFault.TheVariants.{Bytes}
 use Rattle.format.specs.declared.fault.EventFault.TheVariants.{Sections}
 use Rattle.format.specs.declared.fault.OrderFault.{OrderFault}
 use Rattle.format.specs.declared.fault.OrderFault.TheVariants.{Events}
-use Rattle.format.specs.Parse.{map_ok, lift, and_then, here, take_from}
+use Rattle.format.specs.Parse.{and_then, take_from}
 use Rattle.format.specs.Items.{Item, section_from}
-use Rattle.format.specs.Codes.{four, code_section, code_event}
+use Rattle.format.specs.Codes.{four, code_section}
 use Rattle.format.specs.Standings.{fresh, ruled_from, kind_of, kinds_of, kind_at, kind_table}
-use Rattle.format.specs.Layout.{is_magic, magic_body, magic_from, block_from, Layout, laid_as, with_variables, with_objects, with_threads, with_magic, layout}
-use Rattle.format.specs.Trace.{Contents, contents, declared_counts, ordered, read_trace}
+use Rattle.format.specs.Layout.{is_magic, magic_body, magic_from, block_from, laid_as, with_variables, with_objects, with_threads, with_magic, layout}
+use Rattle.format.specs.Trace.{contents, declared_counts, ordered, read_trace}
 use Rattle.format.specs.Encode.{AllBytes}
 use Rattle.format.specs.Refusals.{GoodSection, magic, InSection, EventFault, letter, range, region, life, mutex, InEvents, in_event, FirstFault, short, not_magic, in_threads, in_objects, in_variables, in_events}
 use Rattle.format.proofs.Steps.{ok_err, err_err, then_err, lift_then_err, map_err, either_err}

@@ -1,17 +1,15 @@
 -- What was read is what the code of it says.
-use Rattle.std.proofs.Common.{◌≡◌, ℕ, zero, suc, ◌+◌, ◌*◌, ◌/◌, ◌%◌, ◌<◌, ◌≤◌, Bool, true, false, cond, eqb, leb, List, [], ◌∷◌, ◌++◌, length, get_or, take, drop, Ok, Err, Result, sym, refl, ap, ◌∙◌, subst, ⊎_elim, append_assoc, arith, length-append, w8, Fits}
-use lib.Arith.{digits_div, digits_mod}
+use Rattle.std.proofs.Common.{◌≡◌, ℕ, zero, suc, ◌+◌, ◌*◌, ◌/◌, ◌%◌, ◌<◌, ◌≤◌, true, false, cond, eqb, leb, List, [], ◌∷◌, ◌++◌, length, get_or, take, drop, Ok, Err, sym, refl, ap, ◌∙◌, subst, ⊎_elim, append_assoc, arith, length-append, w8, Fits}
 use Rattle.std.specs.List.{flat_map, AllByRecursion}
 use Rattle.std.proofs.lemmas.List.{take-append-drop, length-take-le, length-drop}
 use Rattle.std.proofs.lemmas.Bool.{leb-true, le-leb, eqb-true}
-use Rattle.format.specs.declared.fault.SectionFault.{SectionFault}
 use Rattle.format.specs.declared.fault.SectionFault.TheVariants.{Bytes, Entry, Count}
 use Rattle.format.specs.declared.fault.ByteFault.TheVariants.{Ends}
 use Rattle.format.specs.declared.kinds.SectionKind.{SectionKind}
 use Rattle.format.specs.declared.kinds.SectionKind.TheVariants.{Threads, Objects, Variables}
 use Rattle.format.specs.declared.kinds.ObjectKind.{ObjectKind}
 use Rattle.format.specs.declared.kinds.ObjectKind.TheVariants.{Mutex, Semaphore}
-use Rattle.format.specs.Parse.{map_ok, lift, and_then, here, byte_from, take_from, two_from, four_from}
+use Rattle.format.specs.Parse.{map_ok, lift, here, byte_from, take_from, two_from, four_from}
 use Rattle.format.specs.Names.{within, all_good_bytes, name_body, name_from}
 use Rattle.format.specs.Items.{Item, thread, object, variable, named, object_body, item_from, items_from, cons_item, section_body, section_from}
 use Rattle.format.specs.Codes.{two, four, code_name, code_kind, code_item, code_section}

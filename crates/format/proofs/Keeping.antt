@@ -1,16 +1,14 @@
 -- A reader that applies the rules event by event accepts exactly the lists that keep them.
-use Rattle.std.proofs.Common.{◌≡◌, ℕ, zero, suc, ◌+◌, ◌<◌, ◌≤◌, true, ◌⊎◌, ◌↔◌, List, [], ◌∷◌, ◌++◌, length, get_or, replicate, Some, None, Option, sym, refl, ap, ◌∙◌, subst, inl, inr, ⊎_elim, append_assoc, append-nil, arith, length-append}
+use Rattle.std.proofs.Common.{◌≡◌, ℕ, zero, suc, ◌+◌, ◌<◌, true, ◌↔◌, List, [], ◌∷◌, ◌++◌, length, None, sym, refl, ap, ◌∙◌, subst, inl, ⊎_elim, append_assoc, append-nil, arith, length-append}
 use mathlib.Core.List.Memᴰ
 use Rattle.std.specs.List.{AllByRecursion}
 use Rattle.event.specs.declared.record.Event.{Event}
 use Rattle.event.specs.declared.counts.Counts.{Counts}
 use Rattle.event.specs.Order.{◌∈◌}
 use Rattle.format.specs.declared.kinds.ObjectKind.{ObjectKind}
-use Rattle.format.specs.declared.kinds.ObjectKind.TheVariants.{Mutex}
-use Rattle.format.specs.declared.kinds.Stage.{Stage}
-use Rattle.format.specs.declared.kinds.Stage.TheVariants.{Unborn, Running}
-use Rattle.format.specs.Rules.{Among, Forks, Begins, Ends, Life, Holds, Allowed, Keeps}
-use Rattle.format.specs.Standings.{Standing, fresh, moved, lives, locks, kind_at, stage_at, holder_at}
+use Rattle.format.specs.declared.kinds.Stage.TheVariants.{Unborn}
+use Rattle.format.specs.Rules.{Among, Forks, Begins, Ends, Life, Allowed, Keeps}
+use Rattle.format.specs.Standings.{Standing, fresh, moved, lives, locks, kind_at}
 use Rattle.format.specs.Encode.{GoodEvent, Numbered}
 use Rattle.format.proofs.Accepting.{Accepts}
 use Rattle.format.proofs.Pasts.{before_or_now}

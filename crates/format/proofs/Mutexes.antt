@@ -1,5 +1,5 @@
 -- The mutex rule: the holder that is remembered of a mutex is the thread that acquired it and has not released it.
-use Rattle.std.proofs.Common.{◌≡◌, ℕ, ◌<◌, ◌≤◌, Bool, true, false, cond, eqb, ◌⊎◌, ◌↔◌, List, [], ◌∷◌, ◌++◌, length, get_or, set, Some, None, Option, sym, refl, ap, ◌∙◌, subst, inl, inr, ⊎_elim, arith, length-set}
+use Rattle.std.proofs.Common.{◌≡◌, ℕ, ◌<◌, Bool, true, cond, ◌↔◌, List, [], ◌∷◌, ◌++◌, length, set, Some, None, Option, sym, refl, ap, ◌∙◌, subst, ⊎_elim, arith, length-set}
 use mathlib.Core.Bool.{false≢true}
 use mathlib.Core.List.Memᴰ
 use Rattle.std.proofs.lemmas.Bool.{eqb-true, eq-eqb}
@@ -13,7 +13,7 @@ use Rattle.format.specs.declared.kinds.ObjectKind.{ObjectKind}
 use Rattle.format.specs.declared.kinds.ObjectKind.TheVariants.{Mutex, Semaphore}
 use Rattle.format.specs.Codes.{code_letter}
 use Rattle.format.specs.Rules.{Holds, Exclusive}
-use Rattle.format.specs.Standings.{is_mutex, is_free, is_holder, kind_at, holder_at, locks_by, locked_by, locks, locked}
+use Rattle.format.specs.Standings.{is_mutex, is_free, is_holder, kind_at, holder_at, locks_by, locked_by, locked}
 use Rattle.format.proofs.Pasts.{before_or_now, letters_apart, after_set}
 
 -- what a remembered holder says: nobody, or the one thread that holds the mutex

@@ -1,7 +1,7 @@
 -- What is wrong with a section, or with the count and the bytes of the events.
-use Rattle.std.proofs.Common.{◌≡◌, ℕ, ◌+◌, ◌-◌, ◌*◌, ◌/◌, ◌<◌, ◌≤◌, Bool, true, false, cond, ltb, leb, ◌⊎◌, List, [], ◌∷◌, ◌++◌, length, get_or, drop, Ok, Err, Result, sym, refl, ap, ◌∙◌, subst, inl, inr, ⊎_elim, arith}
+use Rattle.std.proofs.Common.{◌≡◌, ℕ, ◌+◌, ◌*◌, ◌/◌, ◌<◌, ◌≤◌, Bool, true, false, cond, ltb, leb, ◌⊎◌, List, ◌++◌, length, get_or, drop, Ok, Err, sym, refl, ap, ◌∙◌, subst, inl, inr, ⊎_elim, arith}
 use Rattle.std.specs.List.{flat_map}
-use Rattle.std.proofs.lemmas.Bool.{leb-true, leb-false, ltb-true}
+use Rattle.std.proofs.lemmas.Bool.{leb-false, ltb-true}
 use Rattle.event.specs.declared.counts.Counts.{Counts}
 use Rattle.format.specs.declared.kinds.ObjectKind.{ObjectKind}
 use Rattle.format.specs.declared.kinds.SectionKind.{SectionKind}
@@ -14,7 +14,7 @@ use Rattle.format.specs.declared.fault.OrderFault.TheVariants.{Events}
 use Rattle.format.specs.Parse.{here, two_from, four_from}
 use Rattle.format.specs.Names.{within}
 use Rattle.format.specs.Items.{Item, items_from, section_body, section_from}
-use Rattle.format.specs.Codes.{two, four, code_item}
+use Rattle.format.specs.Codes.{two, code_item}
 use Rattle.format.specs.Layout.{sized, block_body, block_from}
 use Rattle.format.specs.Encode.{AllBytes}
 use Rattle.format.specs.Refusals.{EntryFault, InSection, count_cut, count_out, in_entry, InEvents, cut, left}

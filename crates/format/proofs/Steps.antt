@@ -1,5 +1,5 @@
 -- What a parser's `Ok` says of its steps.
-use Rattle.std.proofs.Common.{◌≡◌, ℕ, Bool, true, false, cond, ◌⊎◌, Some, None, Ok, Err, Option, Result, sym, refl, ap, ◌∙◌, inl, inr, arith}
+use Rattle.std.proofs.Common.{◌≡◌, ℕ, Bool, true, false, cond, ◌⊎◌, Some, None, Ok, Err, Option, Result, refl, ap, inl, inr, arith}
 use Rattle.std.specs.Option.{ok_or}
 use Rattle.format.specs.Parse.{map_ok, lift, and_then}
 

@@ -1,25 +1,22 @@
 -- A file that was read is the encoding of its contents.
-use Rattle.std.proofs.Common.{◌≡◌, ℕ, zero, suc, ◌+◌, ◌*◌, ◌/◌, ◌<◌, ◌≤◌, Bool, true, false, cond, eqb, ltb, List, [], ◌∷◌, ◌++◌, map, length, get_or, Ok, Err, Result, sym, refl, ap, ◌∙◌, subst, arith}
-use Rattle.std.specs.List.{flat_map, AllByRecursion}
+use Rattle.std.proofs.Common.{◌≡◌, ℕ, ◌+◌, ◌*◌, ◌/◌, ◌<◌, ◌≤◌, true, false, cond, eqb, ltb, List, [], ◌∷◌, ◌++◌, length, Ok, Err, sym, ap, ◌∙◌, subst, arith}
+use Rattle.std.specs.List.{AllByRecursion}
 use Rattle.std.proofs.lemmas.Bool.{ltb-false, eqb-true}
 use Rattle.std.proofs.lemmas.List.{length-map}
-use Rattle.event.specs.declared.record.Event.{Event}
 use Rattle.format.specs.declared.fault.ByteFault.TheVariants.{Ends, Magic}
-use Rattle.format.specs.declared.fault.SectionFault.{SectionFault}
 use Rattle.format.specs.declared.fault.SectionFault.TheVariants.{Bytes, Count, Left}
 use Rattle.format.specs.declared.fault.EventFault.TheVariants.{Sections}
-use Rattle.format.specs.declared.fault.OrderFault.{OrderFault}
 use Rattle.format.specs.declared.fault.OrderFault.TheVariants.{Events}
 use Rattle.format.specs.declared.kinds.SectionKind.TheVariants.{Threads, Objects, Variables}
-use Rattle.format.specs.Parse.{map_ok, lift, and_then, here, take_from, four_from}
+use Rattle.format.specs.Parse.{here, take_from, four_from}
 use Rattle.format.specs.Names.{within}
-use Rattle.format.specs.Items.{Item, section_from}
-use Rattle.format.specs.Codes.{four, code_section, code_event}
+use Rattle.format.specs.Items.{section_from}
+use Rattle.format.specs.Codes.{four, code_section}
 use Rattle.format.specs.Standings.{kind_of, kinds_of, kind_at, kind_table, fresh, ruled_from}
 use Rattle.format.specs.Layout.{is_magic, magic_body, magic_from, sized, block_body, block_from, Layout, laid_as, with_variables, with_objects, with_threads, with_magic, layout}
 use Rattle.format.specs.Trace.{Contents, declared_counts, contents, ordered, read_trace}
 use Rattle.format.specs.Encode.{encode, Good, Lawful, AllBytes}
-use Rattle.format.proofs.Steps.{err_ok, ok_ok, then_ok, lift_ok, map_ok_parts, if_ok, unless_ok, lift_then_ok}
+use Rattle.format.proofs.Steps.{ok_ok, then_ok, map_ok_parts, if_ok, unless_ok, lift_then_ok}
 use Rattle.format.proofs.Inverse.{within_true, every_rest, take_sound, four_sound, section_sound}
 use Rattle.format.proofs.EventsInverse.{ruled_sound}
 use Rattle.format.proofs.Keeping.{accepts_iff, keeps_kinds}

@@ -1,5 +1,5 @@
 -- What a section holds: its entries, as the bytes spell them.
-use Rattle.std.specs.Prelude.{ℕ, zero, suc, Bool, true, false, cond, List, [], ◌∷◌, Ok, Err, Result, ◌==◌}
+use Rattle.std.specs.Prelude.{ℕ, zero, suc, cond, List, [], ◌∷◌, Ok, Err, Result, ◌==◌}
 use Rattle.format.specs.declared.fault.SectionFault.{SectionFault}
 use Rattle.format.specs.declared.fault.SectionFault.TheVariants.{Bytes, Entry as Bad, Count}
 use Rattle.format.specs.declared.kinds.SectionKind.{SectionKind}

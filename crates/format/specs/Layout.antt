@@ -1,5 +1,5 @@
 -- The sections of a file, and the bytes of its events.
-use Rattle.std.specs.Prelude.{◌≡◌, ℕ, ◌+◌, ◌*◌, ◌/◌, ◌≤◌, Bool, false, cond, List, length, Ok, Err, Result, ◌==◌, nat_lt, slice_index}
+use Rattle.std.specs.Prelude.{ℕ, ◌+◌, ◌*◌, ◌/◌, Bool, false, cond, List, length, Ok, Err, Result, ◌==◌, nat_lt, slice_index}
 use Rattle.std.specs.List.{flat_map}
 use Rattle.format.specs.declared.fault.ByteFault.{ByteFault}
 use Rattle.format.specs.declared.fault.ByteFault.TheVariants.{Ends, Magic}

@@ -1,5 +1,5 @@
 -- Names and entries.
-use Rattle.std.specs.Prelude.{ℕ, Bool, true, false, cond, List, [], ◌∷◌, take, Ok, Err, Result, nat_le}
+use Rattle.std.specs.Prelude.{ℕ, Bool, true, false, cond, List, [], ◌∷◌, take, Err, Result, nat_le}
 use Rattle.format.specs.declared.fault.SectionFault.{SectionFault}
 use Rattle.format.specs.declared.fault.SectionFault.TheVariants.{Bytes, Entry}
 use Rattle.format.specs.Parse.{lift, and_then, byte_from, take_from}

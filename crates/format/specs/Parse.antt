@@ -1,7 +1,7 @@
 -- Parsers of the bytes that remain: each answers what it read and what then remains, or its fault.
-use Rattle.std.specs.Prelude.{ℕ, ◌+◌, ◌-◌, ◌*◌, Bool, true, false, cond, List, [], ◌∷◌, length, take, drop, Ok, Err, Result, nat_le, slice_index}
+use Rattle.std.specs.Prelude.{ℕ, ◌+◌, ◌-◌, ◌*◌, cond, List, [], ◌∷◌, length, take, drop, Ok, Err, Result, nat_le, slice_index}
 use Rattle.format.specs.declared.fault.ByteFault.{ByteFault}
-use Rattle.format.specs.declared.fault.ByteFault.TheVariants.{Ends, Magic}
+use Rattle.format.specs.declared.fault.ByteFault.TheVariants.{Ends}
 
 abbrev pub map_ok : {X Y E : Type 0} → (X → Y) → Result X E → Result Y E
 map_ok f (Ok x) = Ok (f x)

@@ -1,4 +1,6 @@
 // What the bytes of a trace file mean: which contents they encode, which are lawful, and what is wrong with a file that encodes none.
+#![tactic(auto)]
+
 pub mod exact;
 pub mod fault;
 pub mod kinds;

@@ -1,4 +1,6 @@
 // Keepers of the order of events: the clocks, and a walk backwards over the events themselves.
+#![tactic(auto)]
+
 pub mod admit;
 pub mod clocks;
 pub mod keeper;

@@ -1,6 +1,6 @@
 -- An access has a moment in its region exactly if no release of its thread stands between the access and the moment, and no acquire of it
 -- between the moment and the access: exactly if the access is in the thread's span of that moment.
-use Rattle.std.proofs.Common.{◌≡◌, ℕ, suc, ◌+◌, ◌-◌, ◌<◌, ◌≤◌, Bool, true, false, cond, eqb, ◌⊎◌, List, length, get_or, take, drop, sym, ap, ◌∙◌, subst, ⊎_elim, arith, length-drop, length-take, drop-cons}
+use Rattle.std.proofs.Common.{◌≡◌, ℕ, suc, ◌+◌, ◌-◌, ◌<◌, ◌≤◌, Bool, true, false, cond, eqb, List, length, get_or, take, drop, sym, ap, ◌∙◌, subst, ⊎_elim, arith, length-drop, length-take, drop-cons}
 use Rattle.std.proofs.lemmas.List.{get_or-take, get_or-drop}
 use Rattle.std.proofs.lemmas.Bool.{false≢true, and_parts, cases_order, cases_lt, cond-false}
 use Rattle.event.specs.declared.letter.Letter.{Letter}

@@ -1,4 +1,6 @@
 // Monitors that an instrumenting compiler set: their levels, whether they are placed rightly, and where they overlap.
+#![tactic(auto)]
+
 pub mod fault;
 pub mod level;
 pub mod look;

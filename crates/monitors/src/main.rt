@@ -1,4 +1,6 @@
 // Reads a trace file from standard input, and prints the overlaps of its monitors or why it is refused.
+#![tactic(auto)]
+
 use anyhow::anyhow;
 use output::{LONGEST, list_overlaps};
 use std::io::{Read, Write};

@@ -1,4 +1,6 @@
 // What the programs print.
+#![tactic(auto)]
+
 pub mod answer;
 pub mod lines;
 pub mod monitors;

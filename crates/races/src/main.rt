@@ -1,4 +1,6 @@
 // Reads a trace file from standard input, and prints its races or why it is refused.
+#![tactic(auto)]
+
 use anyhow::anyhow;
 use output::{LONGEST, list_races};
 use std::io::{Read, Write};

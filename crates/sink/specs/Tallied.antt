@@ -1,7 +1,6 @@
 -- What a tally keeps: 256 counters, one for each variable.
-use Rattle.std.specs.Prelude.{ℕ, ◌+◌, ◌%◌, ◌≤◌, List, slice_index, slice_set}
+use Rattle.std.specs.Prelude.{ℕ, ◌+◌, ◌%◌, List, slice_index, slice_set}
 use Rattle.sink.specs.declared.pair.Pair.{Pair}
-use Rattle.sink.specs.declared.tally.Tally.{Tally}
 
 -- how many pairs a tally can take
 abbrev pub most : ℕ

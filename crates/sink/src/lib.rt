@@ -1,4 +1,6 @@
 // What takes findings: lines of text, and a tally of each variable.
+#![tactic(auto)]
+
 pub mod histories;
 pub mod lent;
 pub mod line;

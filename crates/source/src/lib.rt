@@ -1,4 +1,6 @@
 // Sources of events, and filters that pile up on any source.
+#![tactic(auto)]
+
 pub mod filter;
 pub mod lent;
 pub mod list;

@@ -1,5 +1,7 @@
 // Reads a trace file of any length from standard input, runs over it with clocks and a tally ten times, and tells the totals, and on standard error how
 // many nanoseconds the quickest turn took.
+#![tactic(auto)]
+
 use anyhow::anyhow;
 use detect::{Totals, run_all};
 use event::{CallerFault, Event};

@@ -1,4 +1,6 @@
 // Stamps that events carry from thread to thread: kinds of stamps, and the one text that carries them over lent tables.
+#![tactic(auto)]
+
 pub mod clock;
 pub mod kind;
 pub mod reach;

@@ -1,6 +1,5 @@
 -- The entries that a section which was read gives again, with their offsets.
-use Rattle.std.proofs.Common.{◌≡◌, ℕ, zero, suc, ◌+◌, ◌-◌, ◌≤◌, max, List, [], ◌∷◌, ◌++◌, map, length, Ok, Err, Result, sym, refl, ap, ◌∙◌, subst, arith, length-append}
-use Rattle.std.specs.List.{flat_map}
+use Rattle.std.proofs.Common.{◌≡◌, ℕ, zero, suc, ◌+◌, ◌-◌, ◌≤◌, max, List, [], ◌∷◌, map, length, Ok, Err, Result, sym, refl, ap, ◌∙◌, subst, arith, length-append}
 use Rattle.format.specs.declared.fault.SectionFault.{SectionFault}
 use Rattle.format.specs.declared.kinds.SectionKind.{SectionKind}
 use Rattle.format.specs.declared.fault.SectionFault.TheVariants.{Bytes, Count}

@@ -1,14 +1,12 @@
 -- The sections of a file, one after another.
-use Rattle.std.proofs.Common.{◌≡◌, ℕ, ◌+◌, ◌-◌, ◌≤◌, cond, List, length, Ok, Err, Result, sym, refl, ap, ◌∙◌, subst, arith, length-append}
-use Rattle.std.specs.List.{flat_map}
+use Rattle.std.proofs.Common.{◌≡◌, ℕ, ◌+◌, ◌≤◌, List, length, Ok, sym, ap, ◌∙◌, arith, length-append}
 use Rattle.format.specs.declared.fault.ByteFault.TheVariants.{Magic}
 use Rattle.format.specs.declared.fault.SectionFault.TheVariants.{Bytes}
 use Rattle.format.specs.declared.kinds.SectionKind.{SectionKind}
 use Rattle.format.specs.declared.kinds.SectionKind.TheVariants.{Threads, Objects, Variables}
-use Rattle.format.specs.Parse.{map_ok, here, take_from}
+use Rattle.format.specs.Parse.{here, take_from}
 use Rattle.format.specs.Items.{Item, section_from}
-use Rattle.format.specs.Codes.{code_item}
-use Rattle.format.specs.Layout.{is_magic, magic_body, magic_from, block_from, Layout, laid_as, size, with_variables, with_objects, with_threads, with_magic, layout}
+use Rattle.format.specs.Layout.{is_magic, magic_body, magic_from, block_from, laid_as, size, with_variables, with_objects, with_threads, with_magic, layout}
 use Rattle.format.proofs.Steps.{ok_ok, then_ok, if_ok, ok_then, ok_lift_then, ok_map}
 use Rattle.format.proofs.Inverse.{take_sound, section_size}
 

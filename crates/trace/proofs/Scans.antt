@@ -1,5 +1,5 @@
 -- The events of a file after its sections.
-use Rattle.std.proofs.Common.{◌≡◌, ℕ, ◌≤◌, min, List, length, Ok, Err, Result, sym, refl, ap, ◌∙◌, arith}
+use Rattle.std.proofs.Common.{◌≡◌, ℕ, ◌≤◌, min, List, Ok, Err, Result, sym, refl, ap, ◌∙◌, arith}
 use Rattle.event.specs.declared.record.Event.{Event}
 use Rattle.event.specs.declared.counts.Counts.{Counts}
 use Rattle.event.specs.Ranges.{nearest}
@@ -12,7 +12,7 @@ use Rattle.format.specs.Parse.{map_ok}
 use Rattle.trace.specs.Section.{items_in}
 use Rattle.format.specs.Events.{got_events}
 use Rattle.format.specs.Standings.{Standing, fresh, ruled_from, kinds_of, kind_table}
-use Rattle.format.specs.Layout.{Layout, layout}
+use Rattle.format.specs.Layout.{layout}
 use Rattle.trace.specs.Whole.{layout_of, Laid}
 use Rattle.format.specs.Trace.{contents, declared_counts, ordered, read_trace}
 use Rattle.trace.specs.Whole.{contents_of, counts_in}

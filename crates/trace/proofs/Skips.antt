@@ -1,5 +1,5 @@
 -- Going over n entries one by one.
-use Rattle.std.proofs.Common.{◌≡◌, ℕ, zero, suc, ◌+◌, ◌-◌, ◌<◌, List, [], length, Ok, Err, Result, sym, refl, ap, ◌∙◌, arith}
+use Rattle.std.proofs.Common.{◌≡◌, ℕ, suc, List, Ok, Err, Result, refl, ap, ◌∙◌}
 use Rattle.format.specs.declared.fault.SectionFault.{SectionFault}
 use Rattle.format.specs.declared.kinds.SectionKind.{SectionKind}
 use Rattle.format.specs.Parse.{map_ok, and_then, here}

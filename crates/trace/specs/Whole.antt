@@ -1,5 +1,5 @@
 -- What a trace that borrows from the file stands for.
-use Rattle.std.specs.Prelude.{◌≡◌, ℕ, ◌+◌, min, List, length}
+use Rattle.std.specs.Prelude.{◌≡◌, ◌+◌, min, length}
 use Rattle.event.specs.declared.counts.Counts.{Counts}
 use Rattle.event.specs.Ranges.{nearest}
 use Rattle.format.specs.Codes.{items_laid_out}

@@ -1,4 +1,6 @@
 // Reads trace files: bytes, sections, events and the rules of threads and mutexes. The faults stand in the crate `format`.
+#![tactic(auto)]
+
 pub mod bytes;
 pub mod entries;
 pub mod entry;

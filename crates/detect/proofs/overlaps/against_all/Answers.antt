@@ -1,8 +1,7 @@
-use Rattle.std.proofs.Common.{◌≡◌, ℕ, ◌+◌, ◌++◌, sym, refl, ap, ◌∙◌, subst, arith}
+use Rattle.std.proofs.Common.{◌≡◌, ℕ, ◌+◌, ◌++◌, sym, refl, ap, ◌∙◌, arith}
 use Rattle.monitor.specs.Overlaps.{gathered, named}
 use Rattle.monitor.proofs.Listing.{gathered_more}
 use Rattle.detect.specs.Meetings.{if_named, named_by}
-use Rattle.detect.specs.Offers.{OffersTo}
 use Rattle.detect.proofs.Offering.{offered_none, offered_as, offered_more}
 use Rattle.detect.proofs.overlaps.against_all.Goals as goal
 

@@ -1,4 +1,4 @@
-use Rattle.std.proofs.Common.{cond, [], sym, refl, ap, ◌∙◌}
+use Rattle.std.proofs.Common.{cond, [], refl, ap}
 use Rattle.detect.specs.Meetings.{named_by}
 use Rattle.detect.proofs.Offering.{offered_none, offered_as}
 use Rattle.detect.proofs.overlaps.over.Goals as goal

@@ -1,4 +1,4 @@
-use Rattle.std.proofs.Common.{◌≡◌, ◌-◌, map, sym, refl, ap, ◌∙◌, subst, arith}
+use Rattle.std.proofs.Common.{◌≡◌, ◌-◌, map, ap, ◌∙◌, arith}
 use Rattle.event.specs.Faults.{filed}
 use Rattle.source.specs.Listed.{listed}
 use Rattle.sink.specs.Written.{Written, room, filled}

@@ -1,10 +1,10 @@
-use Rattle.std.proofs.Common.{◌≡◌, ◌-◌, ◌≤◌, List, [], length, None, sym, refl, ap, ◌∙◌, subst, arith}
+use Rattle.std.proofs.Common.{◌≡◌, ◌-◌, ◌≤◌, length, sym, refl, ap, ◌∙◌, subst, arith}
 use Rattle.event.specs.declared.counts.Counts.{Counts}
 use Rattle.trace.specs.Feed.{coming}
 use Rattle.trace.proofs.Soundness.{coming_few}
 use Rattle.order.specs.Runs.{Lists}
 use Rattle.sink.specs.Written.{Written, room, filled}
-use Rattle.stamp.specs.Slots.{slots, lacking}
+use Rattle.stamp.specs.Slots.{slots}
 use Rattle.output.specs.Said.{Said}
 use Rattle.output.proofs.Listing.{Listed, listed, few_latest, no_lack, not_refused}
 use Rattle.output.proofs.Printing.{made_each}

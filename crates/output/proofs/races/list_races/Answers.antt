@@ -1,4 +1,4 @@
-use Rattle.std.proofs.Common.{◌≡◌, Ok, Err, Result, arith}
+use Rattle.std.proofs.Common.{arith}
 use Rattle.trace.specs.Whole.{contents_of}
 use Rattle.output.specs.Said.{said}
 use Rattle.output.proofs.Listing.{answered}

@@ -1,4 +1,4 @@
-use Rattle.std.proofs.Common.{◌≡◌, ◌+◌, ◌-◌, Ok, sym, ap, ◌∙◌, arith, rules}
+use Rattle.std.proofs.Common.{◌+◌, ◌-◌, Ok, ◌∙◌, arith, rules}
 use Rattle.format.specs.Standings.{ruled_from}
 use Rattle.trace.specs.Standing.{standing_of}
 use Rattle.format.proofs.Checks.{verdict, verdict_step, verdict_good, told, got_events_is, got_length, event_range}

@@ -1,4 +1,4 @@
-use Rattle.std.proofs.Common.{◌≡◌, ◌+◌, ◌≤◌, max, length, sym, refl, ap, ◌∙◌, arith, length-set, rules}
+use Rattle.std.proofs.Common.{◌≤◌, max, length, refl, ap, ◌∙◌, arith, length-set, rules}
 use Rattle.std.proofs.lemmas.List.{nil_from_length}
 use Rattle.trace.specs.Spots.{spot_of}
 use Rattle.trace.specs.Entries.{shown}

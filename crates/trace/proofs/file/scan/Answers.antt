@@ -1,4 +1,4 @@
-use Rattle.std.proofs.Common.{◌≡◌, length, Ok, sym, refl, ap, ◌∙◌, rules}
+use Rattle.std.proofs.Common.{length, Ok, sym, ap, ◌∙◌, rules}
 use Rattle.format.specs.Events.{got_events}
 use Rattle.trace.specs.Standing.{standing_of}
 use Rattle.trace.specs.Whole.{counts_in}

@@ -1,4 +1,4 @@
-use Rattle.std.proofs.Common.{◌≡◌, ◌+◌, ◌≤◌, length, Ok, sym, refl, ap, ◌∙◌, arith}
+use Rattle.std.proofs.Common.{◌≡◌, ◌+◌, ◌≤◌, length, Ok, ap, ◌∙◌, arith}
 use Rattle.format.specs.declared.kinds.SectionKind.TheVariants.{Threads, Objects, Variables}
 use Rattle.format.specs.Parse.{here}
 use Rattle.format.specs.Items.{section_from}

@@ -1,4 +1,4 @@
-use Rattle.std.proofs.Common.{ap, ◌∙◌, rules}
+use Rattle.std.proofs.Common.{ap, ◌∙◌}
 use Rattle.format.specs.Names.{all_good_bytes}
 use Rattle.trace.proofs.Fronts.{take_seen}
 use Rattle.trace.proofs.names.good_front.Goals as goal

@@ -1,4 +1,4 @@
-use Rattle.std.proofs.Common.{◌≡◌, Ok, sym, refl, ap, ◌∙◌, arith, rules}
+use Rattle.std.proofs.Common.{refl, ap, ◌∙◌, arith, rules}
 use Rattle.format.specs.Parse.{two_from}
 use Rattle.format.specs.Items.{items_from, after}
 use Rattle.trace.proofs.Laying.{section_read}

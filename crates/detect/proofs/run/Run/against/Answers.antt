@@ -1,6 +1,5 @@
-use Rattle.std.proofs.Common.{◌≡◌, cond, List, [], ◌∷◌, sym, refl, ap, ◌∙◌}
+use Rattle.std.proofs.Common.{cond, [], sym, refl, ap, ◌∙◌}
 use Rattle.std.proofs.lemmas.Bool.{lt-leb}
-use Rattle.order.specs.Runs.{Two}
 use Rattle.detect.specs.Reports.{unless_below, if_conflicting}
 use Rattle.detect.proofs.Offering.{offered_none, offered_as}
 use Rattle.detect.proofs.run.Run.against.Goals as goal

@@ -1,4 +1,4 @@
-use Rattle.std.proofs.Common.{◌≡◌, ◌<◌, sym, ap, ◌∙◌, subst, arith}
+use Rattle.std.proofs.Common.{◌≡◌, ◌<◌, sym, ap, subst, arith}
 use Rattle.event.specs.declared.counts.Counts.{Counts}
 use Rattle.finds.proofs.Pushes.{below_none, below_more}
 use Rattle.detect.proofs.Asides.{aside_none, aside_more, ready_aside}

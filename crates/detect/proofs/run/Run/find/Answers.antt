@@ -1,5 +1,4 @@
-use Rattle.std.proofs.Common.{◌≡◌, cond, List, [], ◌∷◌, sym, refl, ap, ◌∙◌}
-use Rattle.order.specs.Runs.{Two}
+use Rattle.std.proofs.Common.{cond, [], ◌∷◌, sym, refl, ap, ◌∙◌}
 use Rattle.detect.proofs.Offering.{offered_none, offered_as, offered_taken, taken_room}
 use Rattle.detect.proofs.run.Run.find.Goals as goal
 

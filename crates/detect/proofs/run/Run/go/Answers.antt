@@ -1,4 +1,4 @@
-use Rattle.std.proofs.Common.{◌≡◌, sym, refl, ap, ◌∙◌, arith}
+use Rattle.std.proofs.Common.{arith}
 use Rattle.detect.proofs.Going.{keeps_none, keeps_more, on_none, on_more, goes_spent, goes_ended, goes_refused}
 use Rattle.detect.proofs.run.Run.go.Goals as goal
 

@@ -1,4 +1,4 @@
-use Rattle.std.proofs.Common.{◌≡◌, cond, [], set, Some, sym, refl, ap}
+use Rattle.std.proofs.Common.{cond, [], set, Some, refl, ap}
 use Rattle.finds.specs.Found.{against_below}
 use Rattle.detect.specs.Steps.{counts_of}
 use Rattle.detect.specs.Table.{slot}

@@ -1,4 +1,4 @@
-use Rattle.std.proofs.Common.{◌≡◌, ◌∷◌, ◌++◌, sym, refl, ap, ◌∙◌, subst}
+use Rattle.std.proofs.Common.{◌∷◌, ◌++◌, sym, refl, ap, ◌∙◌, subst}
 use Rattle.event.specs.declared.counts.Counts.{Counts}
 use Rattle.event.specs.Thins.{Sound}
 use Rattle.finds.specs.Found.{found_at}

@@ -1,4 +1,4 @@
-use Rattle.std.proofs.Common.{◌-◌, ◌∷◌, sym, ap, ◌∙◌, arith, rules}
+use Rattle.std.proofs.Common.{◌-◌, ◌∷◌, sym, ◌∙◌, arith, rules}
 use Rattle.format.specs.Items.{laid_from}
 use Rattle.trace.specs.Spots.{item_of}
 use Rattle.trace.proofs.Laying.{laid_more, laid_none}

@@ -1,4 +1,4 @@
-use Rattle.std.proofs.Common.{◌≡◌, ◌+◌, ◌-◌, drop, sym, refl, ap, ◌∙◌, arith, rules}
+use Rattle.std.proofs.Common.{◌+◌, ◌-◌, drop, sym, refl, ap, ◌∙◌, arith, rules}
 use Rattle.format.specs.Events.{got_event, got_events}
 use Rattle.format.proofs.Checks.{got_step, got_short}
 use Rattle.trace.proofs.events.feeding.EventsIterator.next.Goals as goal
