@@ -8,7 +8,7 @@ use Rattle.order.specs.Runs.{Two, Reported}
 use Rattle.sink.specs.Line.{line}
 use Rattle.sink.specs.Written.{Written, with_line}
 use Rattle.detect.specs.Pairs.{pair_of}
-use Rattle.output.specs.Inputs.{ByInput, Answers}
+use Rattle.output.specs.Inputs.{AnswersBy, Answers}
 use Rattle.output.specs.Lines.{totals_text}
 use Rattle.output.specs.Races.{report}
 use Rattle.output.specs.Said.{Said}
@@ -57,7 +57,7 @@ printed_lines fs room before after found written dropped buffer three none r bac
 pub answered : (answer : Contents → Said → Type 0) (bs : List ℕ) (c : Contents) (s : Said) → length bs ≤ 65536 → Ok c ≡ read_trace bs → answer c s → Answers answer bs s
 answered answer bs c s le h l =
     let t : ltb 65536 (length bs) ≡ false = le-ltb 65536 (length bs) le in
-    subst (λ b. ByInput answer b (read_trace bs) s) (sym t) (subst (λ r. ByInput answer false r s) h l)
+    subst (λ b. AnswersBy answer b (read_trace bs) s) (sym t) (subst (λ r. AnswersBy answer false r s) h l)
 
 pub made_each : {X E : Type 0} {P Q : X → Type 0} (r : Result X E) → ((x : X) → P x → Q x) → IfOk r P → IfOk r Q
 made_each (Ok x) f h = f x h

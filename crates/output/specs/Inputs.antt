@@ -8,10 +8,10 @@ use Rattle.format.specs.Trace.{Contents, read_trace}
 use Rattle.output.specs.Said.{Said, refusing}
 
 -- an input that is too long is refused, then a file that is no trace file; any other is answered by its contents
-abbrev pub ByInput : (Contents → Said → Type 0) → Bool → Result Contents OrderFault → Said → Type 0
-ByInput answer true r s = s ≡ refusing (caller_filed (Table 65537))
-ByInput answer false (Err f) s = s ≡ refusing (order_filed f)
-ByInput answer false (Ok c) s = answer c s
+abbrev pub AnswersBy : (Contents → Said → Type 0) → Bool → Result Contents OrderFault → Said → Type 0
+AnswersBy answer true r s = s ≡ refusing (caller_filed (Table 65537))
+AnswersBy answer false (Err f) s = s ≡ refusing (order_filed f)
+AnswersBy answer false (Ok c) s = answer c s
 
 abbrev pub Answers : (Contents → Said → Type 0) → List ℕ → Said → Type 0
-Answers answer bs s = ByInput answer (nat_lt 65536 (length bs)) (read_trace bs) s
+Answers answer bs s = AnswersBy answer (nat_lt 65536 (length bs)) (read_trace bs) s
