@@ -21,9 +21,9 @@ abbrev pub leads : Counts → List Bool → List Bool → Event → Bool
 leads c threads objects e = slice_index_or threads e.thread false || flagged objects (option_map (slot c) (released e))
 
 -- n is the entry of t for u
-abbrev pub Walks_to : Counts → List Event → ℕ → ℕ → ℕ → Type 0
-Walks_to c es t u n = Sound c es → t < c.threads → u < c.threads → IsEntry es t u n
+abbrev pub WalksTo : Counts → List Event → ℕ → ℕ → ℕ → Type 0
+WalksTo c es t u n = Sound c es → t < c.threads → u < c.threads → IsEntry es t u n
 
 -- the same, from flags that are all down
 abbrev pub WalksFrom : Counts → List Event → List Bool → List Bool → ℕ → ℕ → ℕ → Type 0
-WalksFrom c es threads objects t u n = threads ≡ replicate 16 false → objects ≡ replicate 544 false → Walks_to c es t u n
+WalksFrom c es threads objects t u n = threads ≡ replicate 16 false → objects ≡ replicate 544 false → WalksTo c es t u n

@@ -1,10 +1,9 @@
 // Lets through the first accesses of each thread's every period, and every event that is no access.
-ghost use Rattle.std.specs.Prelude.{◌≡◌, ◌<◌, true, [], length, IfOk, MatchResult};
+ghost use Rattle.std.specs.Prelude.{◌≡◌, ◌<◌, true, [], length, IfOk, MatchResult, refl};
 ghost use Rattle.std.specs.Result.{result_map_both};
 ghost use Rattle.event.specs.Thins.{access};
 ghost use Rattle.event.proofs.Sieving.{stopped, sieved_sound, sieved_thins};
 ghost use Rattle.source.specs.Sampled.{AccessesAreNumberedByThread, counters_for, counted, lets, sampled, sampled_by};
-ghost use Rattle.std.proofs.Common.{rules};
 
 use crate::filter::Filter;
 use crate::refusal::Refusal;
@@ -100,7 +99,7 @@ impl<S: Source> Filter for Sampler<S> {
 
     ghost thins = { λ s. sieved_thins (lets s.counters) (λ _ e. stopped e _) [] (S.Source.rest s.below) };
 
-    ghost same = { Prim.search rules };
+    ghost same = { λ s. refl };
 }
 
 // Which accesses a sampler's list has, by the events before each of them.

@@ -1,6 +1,6 @@
 // The entry of a thread for another, by a walk backwards over the events.
 ghost use Rattle.std.specs.Prelude.{◌≡◌, false, replicate};
-ghost use Rattle.keeper.specs.Walks.{flagged, flag, leads, WalksFrom, Walks_to};
+ghost use Rattle.keeper.specs.Walks.{flagged, flag, leads, WalksFrom, WalksTo};
 
 use event::{Counts, Event};
 use stamp::slots::slot_of;
@@ -66,7 +66,7 @@ fn no_objects() -> [bool; 544]
 
 // The entry of t for u after the events told.
 pub fn entry(counts: Counts, told: &[Event], t: usize, u: usize) -> u32
-    ensures { Walks_to counts told.now t u result }
+    ensures { WalksTo counts told.now t u result }
 {
     let mut threads = [false; 16];
     let mut objects = no_objects();
