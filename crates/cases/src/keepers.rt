@@ -24,8 +24,8 @@ fn tell_all<K: Keeper>(keeper: &mut K, t: &Trace<'_>) -> Result<(), Fail> {
 }
 
 fn by_clocks(t: &Trace<'_>, asker: usize, other: usize) -> Result<u32, Fail> {
-    let mut threads = [<Clock as Stamp>::lowest(); 16];
-    let mut objects = [<Clock as Stamp>::lowest(); 40];
+    let mut threads = [Clock::lowest(); 16];
+    let mut objects = [Clock::lowest(); 40];
     let mut keeper = Clocks::new(t.counts(), &mut threads, &mut objects)?;
     tell_all(&mut keeper, t)?;
     Ok(keeper.ask(asker, other)?)
@@ -47,8 +47,8 @@ fn hand_all(t: &Trace<'_>, threads: &mut [Reach], objects: &mut [Reach]) -> Resu
 }
 
 fn reached(rt: &impl Abort, t: &Trace<'_>, thread: usize) -> Result<u32, Fail> {
-    let mut threads = [<Reach as Stamp>::lowest(); 16];
-    let mut objects = [<Reach as Stamp>::lowest(); 40];
+    let mut threads = [Reach::lowest(); 16];
+    let mut objects = [Reach::lowest(); 40];
     hand_all(t, &mut threads, &mut objects)?;
     assert!(rt; thread < 16);
     Ok(threads[thread].size())
@@ -166,10 +166,10 @@ fn full(rt: HostRuntime) -> Result<(), Fail> {
 fn small_tables(rt: HostRuntime) -> Result<(), Fail> {
     let bytes = file(rt.alloc(), 2, "m", 1, "")?;
     let t = read(&bytes)?;
-    let mut two = [<Clock as Stamp>::lowest(); 2];
-    let mut five = [<Clock as Stamp>::lowest(); 5];
-    let mut one = [<Clock as Stamp>::lowest(); 1];
-    let mut four = [<Clock as Stamp>::lowest(); 4];
+    let mut two = [Clock::lowest(); 2];
+    let mut five = [Clock::lowest(); 5];
+    let mut one = [Clock::lowest(); 1];
+    let mut four = [Clock::lowest(); 4];
     assert!(rt;
         Clocks::new(t.counts(), &mut two, &mut five).is_ok(),
         "just large enough"

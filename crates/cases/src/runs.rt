@@ -5,7 +5,7 @@ use event::{CallerFault, Event, Letter};
 use keeper::{Clocks, Keeper, Walk};
 use sink::{Lines, Tally};
 use source::{Sampler, Source};
-use stamp::Stamp;
+use stamp::{Clock, Stamp};
 use std::test::Fail;
 use trace::{Trace, read};
 
@@ -23,8 +23,8 @@ fn by_clocks<S: Source>(
     bytes: &mut [u8],
     budget: usize,
 ) -> Result<Totals, CallerFault> {
-    let mut threads = [<stamp::clock::Clock as Stamp>::lowest(); 16];
-    let mut objects = [<stamp::clock::Clock as Stamp>::lowest(); 40];
+    let mut threads = [Clock::lowest(); 16];
+    let mut objects = [Clock::lowest(); 40];
     let mut latest = [None; 64];
     let mut keeper = Clocks::new((*source).counts(), &mut threads, &mut objects)?;
     let mut sink = Lines::new(bytes);

@@ -12,7 +12,7 @@ use event::{CallerFault, Event};
 use keeper::{Clocks, Keeper};
 use sink::Lines;
 use source::source::Source;
-use stamp::Stamp;
+use stamp::{Clock, Stamp};
 use std::alloc::{AllocError, Global};
 use trace::{Trace, read};
 
@@ -35,8 +35,8 @@ pub(crate) fn told(heap: Global, lines: &[u8], totals: Totals) -> Result<Answer,
 fn list_of(heap: Global, t: &Trace<'_>) -> Result<Answer, AllocError>
     ensures { IfOk result (λ a. RacesListed (contents_of t.now).events (said a)) }
 {
-    let mut threads = [<stamp::clock::Clock as Stamp>::lowest(); 16];
-    let mut objects = [<stamp::clock::Clock as Stamp>::lowest(); 544];
+    let mut threads = [Clock::lowest(); 16];
+    let mut objects = [Clock::lowest(); 544];
     let mut latest = [None; 8192];
     let mut lines = [0; 63000];
     match Clocks::new(t.counts(), &mut threads, &mut objects) {

@@ -56,8 +56,8 @@ fn main(rt: HostRuntime) -> anyhow::Result<()> {
     let Ok(t) = read(&input) else {
         return Err(anyhow!("this is no valid trace file"));
     };
-    let mut threads = [<Clock as Stamp>::lowest(); 16];
-    let mut objects = [<Clock as Stamp>::lowest(); 544];
+    let mut threads = [Clock::lowest(); 16];
+    let mut objects = [Clock::lowest(); 544];
     let mut latest = [None; 8192];
     let (totals, best) = turns(&rt, &t, &mut threads, &mut objects, &mut latest)?;
     let line = totals_line(heap, totals.found, totals.written, totals.dropped)?;
