@@ -1,20 +1,12 @@
 // Both keepers on worked examples: the same entries, and the expected ones.
-use crate::script::file;
-use event::{Event, Letter};
+use crate::script::{NOTHING, file, refusal};
+use event::{Event, Fault, Letter};
 use keeper::{Clocks, Keeper, Walk};
 use stamp::tables::{hand_in, start};
 use stamp::{Clock, Reach, Stamp};
 use std::process::Abort;
 use std::test::Fail;
 use trace::{Trace, read};
-
-const NOTHING: Event = Event {
-    place: 0,
-    thread: 0,
-    letter: Letter::Read,
-    number: 0,
-    region: 0,
-};
 
 fn tell_all<K: Keeper>(keeper: &mut K, t: &Trace<'_>) -> Result<(), Fail> {
     for e in t.events() {
@@ -24,8 +16,8 @@ fn tell_all<K: Keeper>(keeper: &mut K, t: &Trace<'_>) -> Result<(), Fail> {
 }
 
 fn by_clocks(t: &Trace<'_>, asker: usize, other: usize) -> Result<u32, Fail> {
-    let mut threads = [Clock::lowest(); 16];
-    let mut objects = [Clock::lowest(); 40];
+    let mut threads = [Clock::LEAST; 16];
+    let mut objects = [Clock::LEAST; 40];
     let mut keeper = Clocks::new(t.counts(), &mut threads, &mut objects)?;
     tell_all(&mut keeper, t)?;
     Ok(keeper.ask(asker, other)?)
@@ -47,8 +39,8 @@ fn hand_all(t: &Trace<'_>, threads: &mut [Reach], objects: &mut [Reach]) -> Resu
 }
 
 fn reached(rt: &impl Abort, t: &Trace<'_>, thread: usize) -> Result<u32, Fail> {
-    let mut threads = [Reach::lowest(); 16];
-    let mut objects = [Reach::lowest(); 40];
+    let mut threads = [Reach::LEAST; 16];
+    let mut objects = [Reach::LEAST; 40];
     hand_all(t, &mut threads, &mut objects)?;
     assert!(rt; thread < 16);
     Ok(threads[thread].size())
@@ -107,13 +99,6 @@ fn reaches(rt: HostRuntime) -> Result<(), Fail> {
     Ok(())
 }
 
-fn number_of(r: Result<(), event::CallerFault>) -> (u8, usize) {
-    match r {
-        Ok(()) => (0, 0),
-        Err(f) => (f.number(), f.place()),
-    }
-}
-
 // place, thread and number of what is told to a keeper with room for three, and the answer
 const TOLD: [(u32, u8, u16, (u8, usize)); 9] = [
     (5, 2, 0, (7, 5)),
@@ -140,7 +125,7 @@ fn refusals(rt: HostRuntime) -> Result<(), Fail> {
             number,
             ..NOTHING
         };
-        assert_eq!(rt; number_of(keeper.tell(e)), want);
+        assert_eq!(rt; refusal(keeper.tell(e)), want);
     }
     Ok(())
 }
@@ -151,9 +136,9 @@ fn full(rt: HostRuntime) -> Result<(), Fail> {
     let t = read(&bytes)?;
     let mut told = [NOTHING; 1];
     let mut keeper = Walk::new(t.counts(), &mut told);
-    assert_eq!(rt; number_of(keeper.tell(NOTHING)), (0, 0));
+    assert_eq!(rt; refusal(keeper.tell(NOTHING)), (0, 0));
     assert_eq!(rt;
-        number_of(keeper.tell(Event {
+        refusal(keeper.tell(Event {
             place: 1,
             ..NOTHING
         })),
@@ -166,10 +151,10 @@ fn full(rt: HostRuntime) -> Result<(), Fail> {
 fn small_tables(rt: HostRuntime) -> Result<(), Fail> {
     let bytes = file(rt.alloc(), 2, "m", 1, "")?;
     let t = read(&bytes)?;
-    let mut two = [Clock::lowest(); 2];
-    let mut five = [Clock::lowest(); 5];
-    let mut one = [Clock::lowest(); 1];
-    let mut four = [Clock::lowest(); 4];
+    let mut two = [Clock::LEAST; 2];
+    let mut five = [Clock::LEAST; 5];
+    let mut one = [Clock::LEAST; 1];
+    let mut four = [Clock::LEAST; 4];
     assert!(rt;
         Clocks::new(t.counts(), &mut two, &mut five).is_ok(),
         "just large enough"

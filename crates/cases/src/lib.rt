@@ -8,6 +8,8 @@ mod monitors;
 #[cfg(test)]
 mod overlaps;
 #[cfg(test)]
+mod programs;
+#[cfg(test)]
 mod reader;
 #[cfg(test)]
 mod runs;

@@ -1,27 +1,11 @@
 // Which placements of monitors are accepted, and the lowest moment of the others.
-use crate::script::file;
+use crate::script::{NOTHING, file, verdict};
 use event::{Event, Letter};
 use monitor::{Level, PlacementFault, check as check_placement};
 use source::EventList;
 use source::source::Source;
 use std::test::Fail;
 use trace::{Trace, read};
-
-const NOTHING: Event = Event {
-    place: 0,
-    thread: 0,
-    letter: Letter::Read,
-    number: 0,
-    region: 0,
-};
-
-// number, layer and place of the refusal, or zeros
-fn verdict(r: Result<(), PlacementFault>) -> (u8, u8, usize) {
-    match r {
-        Ok(()) => (0, 0, 0),
-        Err(f) => (f.number(), f.layer(), f.place()),
-    }
-}
 
 fn placed(t: &Trace<'_>, levels: &mut [Level]) -> Result<(u8, u8, usize), Fail> {
     let mut table = [NOTHING; 32];

@@ -1,21 +1,13 @@
 // Which overlaps of monitors are reported, and in which order.
-use crate::script::file;
+use crate::script::{NOTHING, file};
 use detect::{Totals, report};
-use event::{CallerFault, Event, Letter};
+use event::{CallerFault, Fault};
 use monitor::{Level, PlacementFault};
 use sink::Lines;
 use source::EventList;
 use source::source::Source;
 use std::test::Fail;
 use trace::{Trace, read};
-
-const NOTHING: Event = Event {
-    place: 0,
-    thread: 0,
-    letter: Letter::Read,
-    number: 0,
-    region: 0,
-};
 
 // the totals of a report into lines over these bytes
 fn reported(t: &Trace<'_>, bytes: &mut [u8]) -> Result<Totals, PlacementFault> {

@@ -1,5 +1,6 @@
 // Which files the reader accepts, and why it refuses the others.
 use crate::script::{file, sections};
+use event::Fault;
 use std::alloc::Global;
 use std::process::Abort;
 use std::test::Fail;

@@ -1,5 +1,5 @@
 // Whole runs: both keepers, filters, sinks of every room, a keeper that is full midway.
-use crate::script::file;
+use crate::script::{NOTHING, file};
 use detect::{Totals, run_all};
 use event::{CallerFault, Event, Letter};
 use keeper::{Clocks, Keeper, Walk};
@@ -9,22 +9,14 @@ use stamp::{Clock, Stamp};
 use std::test::Fail;
 use trace::{Trace, read};
 
-const NOTHING: Event = Event {
-    place: 0,
-    thread: 0,
-    letter: Letter::Read,
-    number: 0,
-    region: 0,
-};
-
 // found, written and dropped with clocks and lines over these bytes
 fn by_clocks<S: Source>(
     source: &mut S,
     bytes: &mut [u8],
     budget: usize,
 ) -> Result<Totals, CallerFault> {
-    let mut threads = [Clock::lowest(); 16];
-    let mut objects = [Clock::lowest(); 40];
+    let mut threads = [Clock::LEAST; 16];
+    let mut objects = [Clock::LEAST; 40];
     let mut latest = [None; 64];
     let mut keeper = Clocks::new((*source).counts(), &mut threads, &mut objects)?;
     let mut sink = Lines::new(bytes);

@@ -1,5 +1,30 @@
-// Trace files from short scripts. An event is written as its thread, its letter and its number, one digit each: `0f1` is thread 0 forking thread 1.
+// Trace files from short scripts, and how a refusal is compared. An event is written as its thread, its letter and its number, one digit each: `0f1` is
+// thread 0 forking thread 1.
+use event::{Event, Fault, Letter};
 use std::alloc::{AllocError, Global};
+
+// What a table of events holds before it is used.
+pub const NOTHING: Event = Event {
+    place: 0,
+    thread: 0,
+    letter: Letter::Read,
+    number: 0,
+    region: 0,
+};
+
+// number, layer and place of the refusal, or zeros
+pub fn verdict<T: Drop, F: Fault + Drop>(r: Result<T, F>) -> (u8, u8, usize) {
+    match r {
+        Ok(_) => (0, 0, 0),
+        Err(f) => (f.number(), f.layer(), f.place()),
+    }
+}
+
+// number and place of the refusal, or zeros
+pub fn refusal<T: Drop, F: Fault + Drop>(r: Result<T, F>) -> (u8, usize) {
+    let (number, _, place) = verdict(r);
+    (number, place)
+}
 
 fn digit(b: u8) -> u8 {
     b.wrapping_sub(b'0')
@@ -22,25 +47,11 @@ fn add_objects(file: &mut Vec<u8>, letters: &[u8]) -> Result<(), AllocError> {
 }
 
 fn add_event(file: &mut Vec<u8>, word: &[u8]) -> Result<(), AllocError> {
-    match word {
-        [thread, letter, number] => file.extend_from_slice(&[
-            *letter,
-            digit(*thread),
-            0,
-            digit(*number),
-            0,
-            0,
-        ]),
-        [thread, letter, number, region] => file.extend_from_slice(&[
-            *letter,
-            digit(*thread),
-            0,
-            digit(*number),
-            0,
-            digit(*region),
-        ]),
-        _ => Ok(()),
-    }
+    let [thread, letter, number, region @ ..] = word else {
+        return Ok(());
+    };
+    let region = region.first().map_or(0, |r| digit(*r));
+    file.extend_from_slice(&[*letter, digit(*thread), 0, digit(*number), 0, region])
 }
 
 // The three sections: so many threads, an object for each letter, so many variables.

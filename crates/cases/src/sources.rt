@@ -1,17 +1,9 @@
 // Lists and filters: what they let through.
-use crate::script::file;
+use crate::script::{NOTHING, file, refusal};
 use event::{CallerFault, Event, Letter};
 use source::{EventList, Picker, Sampler, Source};
 use std::test::Fail;
 use trace::{Trace, read};
-
-const NOTHING: Event = Event {
-    place: 0,
-    thread: 0,
-    letter: Letter::Read,
-    number: 0,
-    region: 0,
-};
 
 // the places that a source hands out, as the ones of a number; places above 63 count as 63
 fn places<S: Source>(source: &mut S) -> u64 {
@@ -73,14 +65,6 @@ fn sampled_then_picked(
     Ok(places(&mut picker))
 }
 
-// number and place of a refusal
-fn refusal(r: Result<u64, CallerFault>) -> (u8, usize) {
-    match r {
-        Ok(_) => (0, 0),
-        Err(f) => (f.number(), f.place()),
-    }
-}
-
 #[test]
 fn samplers(rt: HostRuntime) -> Result<(), Fail> {
     for (script, burst, period, want) in SAMPLED {
@@ -126,10 +110,7 @@ fn piles(rt: HostRuntime) -> Result<(), Fail> {
 }
 
 fn offered(list: &mut EventList<'_>, e: Event) -> (u8, usize) {
-    match list.push(e) {
-        Ok(()) => (0, 0),
-        Err(f) => (f.number(), f.place()),
-    }
+    refusal(list.push(e))
 }
 
 // place and thread of what is offered to a list with room for two, and the answer

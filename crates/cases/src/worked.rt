@@ -2,8 +2,6 @@
 ghost use Rattle.cases.specs.Worked.{Worked};
 
 // Stands for what its contract states: what the definitions that the contracts cite say of small traces.
-pub fn worked_examples() -> u8
+pub fn worked_examples()
     ensures { Worked }
-{
-    0
-}
+{}

@@ -1,5 +1,5 @@
 -- Offers leave the source, the keeper and the table aside.
-use Rattle.std.proofs.Common.{◌≡◌, ℕ, ◌<◌, true, cond, List, [], ◌∷◌, ◌++◌, get_or, None, Option, sym, refl, ap, ◌∙◌, subst}
+use Rattle.std.proofs.Common.{◌≡◌, ℕ, ◌<◌, true, cond, List, [], ◌∷◌, ◌++◌, get_or, None, Option, sym, ap, ◌∙◌, subst, subst₂, rules}
 use Rattle.event.specs.declared.letter.Letter.TheVariants.{Read, Write}
 use Rattle.event.specs.declared.record.Event.{Event}
 use Rattle.event.specs.Thins.{access, Sound}
@@ -16,17 +16,10 @@ use Rattle.detect.proofs.Rivals.{own_variable, rivals_same}
 
 module _ {S K O : Type 0} {o : Sinking O} where
   pub aside_none : (run : Run S K O) → Aside o run run
-  aside_none run = record { source = refl; keeper = refl; latest = refl; lender = refl; capacity = refl; ended = refl }
+  aside_none run = search rules
 
   pub aside_more : {was mid is : Run S K O} → Aside o was mid → Aside o mid is → Aside o was is
-  aside_more a b = record {
-    source = b.source ∙ a.source;
-    keeper = b.keeper ∙ a.keeper;
-    latest = b.latest ∙ a.latest;
-    lender = b.lender ∙ a.lender;
-    capacity = b.capacity ∙ a.capacity;
-    ended = b.ended ∙ a.ended;
-  }
+  aside_more a b = search rules
 
   pub ready_aside : {s : Giving S} {k : Keeping K} {was is : Run S K O} {T : List Event} {j : Event} → Aside o was is → Ready s k was T j → Ready s k is T j
   ready_aside {s} {k} {was} {is} {T} {j} a r =
@@ -34,7 +27,7 @@ module _ {S K O : Type 0} {o : Sinking O} where
       record {
         told = subst (λ x. k.told x.now (T ++ j ∷ [])) (sym a.keeper) r.told;
         counts = ap (λ x. k.counts x.now) a.keeper ∙ r.counts ∙ sym counts;
-        holds = subst (λ x. Holds (s.counts is.source.now) T x.now) (sym a.latest) (subst (λ c. Holds c T was.latest.now) (sym counts) r.holds);
+        holds = subst₂ (λ c x. Holds c T x.now) (sym counts) (sym a.latest) r.holds;
         sound = subst (λ c. Sound c (T ++ j ∷ [])) (sym counts) r.sound;
       }
 

@@ -1,5 +1,6 @@
 -- The law of a whole run, from what its steps did.
-use Rattle.std.proofs.Common.{◌≡◌, ℕ, ◌+◌, ◌-◌, ◌*◌, ◌≤◌, min, List, ◌++◌, length, take, drop, fold, sym, ap, ◌∙◌, subst, arith}
+use Rattle.std.proofs.Common.{◌≡◌, ℕ, ◌+◌, ◌-◌, ◌*◌, ◌≤◌, min, List, ◌++◌, length, take, drop, sym, ap, ◌∙◌, subst, subst₂, arith}
+use Rattle.std.proofs.Math.Path.{transport}
 use mathlib.Core.List.{Memᴰ}
 use Rattle.std.proofs.lemmas.List.{length-take, take-append-drop}
 use Rattle.event.specs.declared.counts.Counts.{Counts}
@@ -17,13 +18,13 @@ use Rattle.order.proofs.Thinning.{thins_self}
 use Rattle.keeper.specs.declared.keeper.Keeper.{Ghosts as Keeping}
 use Rattle.sink.specs.declared.sink.Sink.{Ghosts as Sinking}
 use Rattle.source.specs.declared.source.Source.{Ghosts as Giving}
-use Rattle.detect.specs.Offers.{most}
+use Rattle.detect.specs.Offers.{most, none, OffersTo}
 use Rattle.detect.specs.Pairs.{pair_of}
 use Rattle.detect.specs.Steps.{counts_of, rest_of, Keeps}
 use Rattle.detect.specs.Whole.{Goes, Whole}
 use Rattle.detect.specs.declared.run.Run.{Run}
-use Rattle.detect.specs.declared.run.Totals.{Totals}
-use Rattle.detect.proofs.Totaling.{reported}
+use Rattle.detect.specs.declared.totals.Totals.{Totals}
+use Rattle.detect.proofs.Totaling.{reports}
 
 -- the findings among the told events of a source's list
 module _ (c : Counts) (P told M : List Event) (sound : Sound c P) (split : told ++ M ≡ P) where
@@ -43,8 +44,8 @@ module _ (c : Counts) (P told M : List Event) (sound : Sound c P) (split : told 
 
 module _ {S K O : Type 0} (s : Giving S) (k : Keeping K) (o : Sinking O) (budget : ℕ) (was is : Run S K O) (keeper : K) (t : Totals)
     (same_capacity : k.capacity was.keeper.now ≡ k.capacity keeper) (same_tables : (c : Counts) → k.lacks was.keeper.now c ≡ k.lacks keeper c)
-    (nothing : (was.found ≡ 0) × (was.written ≡ 0) × (was.dropped ≡ 0)) (keeps : Keeps s k o was is) (goes : Goes s k o budget was is)
-    (totals : (t.found ≡ is.found) × (t.written ≡ is.written) × (t.dropped ≡ is.dropped)) where
+    (nothing : was.totals ≡ none) (keeps : Keeps s k o was is) (goes : Goes s k o budget was is)
+    (totals : t ≡ is.totals) where
   counts : Counts
   counts = counts_of s was
 
@@ -61,9 +62,9 @@ module _ {S K O : Type 0} (s : Giving S) (k : Keeping K) (o : Sinking O) (budget
       bound : (f n m b : ℕ) → f ≤ 32 * n → m ≤ 1000000 → n ≡ min b m → f ≤ most
       bound f n m b p q r = omega arith
 
-  done : Reported (λ l p. o.step l (pair_of p)) (o.capacity was.sink.now - o.taken was.sink.now) (o.log was.sink.now) (o.log is.sink.now) (found_all (counts_of s was).threads goes.told) is.found is.written is.dropped
-      × (o.taken is.sink.now ≡ o.taken was.sink.now + is.written)
-  done = reported (λ l p. o.step l (pair_of p)) _ _ _ _ _ _ _ _ _ _ _ _ goes.offers nothing.0 nothing.1 nothing.2 few
+  done : Reported (λ l p. o.step l (pair_of p)) (o.capacity was.sink.now - o.taken was.sink.now) (o.log was.sink.now) (o.log is.sink.now) (found_all (counts_of s was).threads goes.told) t.found t.written t.dropped
+      × (o.taken is.sink.now ≡ o.taken was.sink.now + t.written)
+  done = reports o was.sink.now is.sink.now _ t (subst₂ (λ a b. OffersTo o was.sink.now a (found_all (counts_of s was).threads goes.told) is.sink.now b) nothing (sym totals) goes.offers) few
 
   pub whole_run : Whole s k o budget was.source.now is.source.now keeper is.keeper.now was.sink.now is.sink.now t
   whole_run = record {
@@ -74,14 +75,9 @@ module _ {S K O : Type 0} (s : Giving S) (k : Keeping K) (o : Sinking O) (budget
     ran = record {
       findings = found_all (counts_of s was).threads goes.told;
       exactly = lists (counts_of s was) (rest_of s was) goes.told _ (s.sound was.source.now) split;
-      reported = record {
-        all = totals.0 ∙ done.0.all;
-        sum = totals.0 ∙ done.0.sum ∙ (λ i. sym totals.1 i + sym totals.2 i);
-        first_ones = totals.1 ∙ done.0.first_ones;
-        steps = done.0.steps ∙ ap (λ n. fold (λ l p. o.step l (pair_of p)) (o.log was.sink.now) (take n (found_all (counts_of s was).threads goes.told))) (sym totals.1);
-      };
+      reported = done.0;
     };
-    taken = done.1 ∙ ap (λ n. o.taken was.sink.now + n) (sym totals.1);
+    taken = done.1;
     more_finds_more = more (counts_of s was) (rest_of s was) goes.told _ (s.sound was.source.now) split;
     races_are_found = races (counts_of s was) (rest_of s was) goes.told _ (s.sound was.source.now) split;
     ordered_never = ordered (counts_of s was) (rest_of s was) goes.told _ (s.sound was.source.now) split;
@@ -96,8 +92,4 @@ module _ {S K O : Type 0} (s : Giving S) (k : Keeping K) (o : Sinking O) (budget
 pub whole_as : {S K O : Type 0} {s : Giving S} {k : Keeping K} {o : Sinking O} {budget : ℕ} {source source' source'' source''' : S} {keeper keeper' keeper'' : K} {sink sink' sink'' sink''' : O} {t : Totals} →
     source ≡ source'' → source' ≡ source''' → keeper' ≡ keeper'' → sink ≡ sink'' → sink' ≡ sink''' →
     Whole s k o budget source source' keeper keeper' sink sink' t → Whole s k o budget source'' source''' keeper keeper'' sink'' sink''' t
-whole_as {S} {K} {O} {s} {k} {o} {budget} {source} {source'} {source''} {source'''} {keeper} {keeper'} {keeper''} {sink} {sink'} {sink''} {sink'''} {t} a b d e f h =
-    subst (λ x. Whole s k o budget source'' source''' keeper keeper'' sink'' x t) f
-    (subst (λ x. Whole s k o budget source'' source''' keeper keeper'' x sink' t) e
-    (subst (λ x. Whole s k o budget source'' source''' keeper x sink sink' t) d
-    (subst (λ x. Whole s k o budget source'' x keeper keeper' sink sink' t) b (subst (λ x. Whole s k o budget x source' keeper keeper' sink sink' t) a h))))
+whole_as {s = s} {k = k} {o = o} {budget = budget} {keeper = keeper} {t = t} a b d e f h = transport (λ i. Whole s k o budget (a i) (b i) keeper (d i) (e i) (f i) t) h

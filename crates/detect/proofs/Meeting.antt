@@ -26,7 +26,7 @@ use Rattle.monitor.proofs.Tabling.{cleared_clear, tabled_room, tabled_anew}
 use Rattle.detect.specs.Meetings.{if_named, named_by, if_raised, Reports}
 use Rattle.detect.specs.Offers.{most, none, OffersTo}
 use Rattle.detect.specs.Pairs.{conflicting}
-use Rattle.detect.specs.declared.run.Totals.{Totals}
+use Rattle.detect.specs.declared.totals.Totals.{Totals}
 use Rattle.detect.proofs.Conflicts.{true_conflicting}
 use Rattle.detect.proofs.Rivals.{access_limit}
 use Rattle.detect.proofs.Totaling.{reports}

@@ -1,17 +1,14 @@
 -- Offers one after another.
-use Rattle.std.proofs.Common.{◌≡◌, ℕ, ◌+◌, ◌-◌, ◌<◌, ◌≤◌, min, Bool, true, false, cond, ltb, List, [], ◌∷◌, ◌++◌, length, take, Ok, Err, fold, sym, refl, ap, ◌∙◌, subst, ⊎_elim, add_assoc, arith}
+use Rattle.std.proofs.Common.{◌≡◌, ℕ, ◌+◌, ◌-◌, ◌<◌, ◌≤◌, min, cond, ltb, List, [], ◌++◌, length, take, Ok, Err, fold, sym, refl, ap, ◌∙◌, subst, ⊎_elim, add_assoc, arith}
 use lib.Seq.{take-append-add}
 use Rattle.std.proofs.lemmas.List.{append-nil, length-append, take_all, take-append-le}
-use Rattle.std.proofs.lemmas.Bool.{cases_lt, ltb-true, ltb-false}
+use Rattle.std.proofs.lemmas.List.Sums.{fold-append}
+use Rattle.std.proofs.lemmas.Bool.{cases_lt, lt-ltb, le-ltb, cond-true, cond-false}
 use Rattle.event.specs.declared.fault.CallerFault.{CallerFault}
-use Rattle.event.specs.declared.fault.CallerFault.TheVariants.{Sink}
 use Rattle.order.specs.Runs.{Two}
-use Rattle.sink.specs.Taking.{taking}
-use Rattle.detect.specs.Offers.{most, counted, Offered}
-
-folded_append : {R : Type 0} (step : R → Two → R) (l : R) (fs gs : List Two) → fold step l (fs ++ gs) ≡ fold step (fold step l fs) gs
-folded_append step l [] gs = refl
-folded_append step l (f ∷ fs) gs = folded_append step (step l f) fs gs
+use Rattle.sink.specs.declared.sink.Sink.{Ghosts as Sinking}
+use Rattle.detect.specs.declared.totals.Totals.{Totals}
+use Rattle.detect.specs.Offers.{most, Offered, Offering}
 
 -- the front of one list after another
 take_both : (n : ℕ) (fs gs : List Two) → take n (fs ++ gs) ≡ take n fs ++ take (n - min n (length fs)) gs
@@ -33,31 +30,10 @@ module _ {R : Type 0} {step : R → Two → R} {capacity taken : ℕ} {log : R} 
       let none : take {A = Two} (capacity - taken) [] ≡ [] = take_all (capacity - taken) [] (omega arith) in
       record { all = λ h. omega arith; took = omega arith; wrote = λ h. omega arith; left = λ h. omega arith; kept = sym (ap (fold step log) none) }
 
-  pub offered_taken : (f : Two) (taken' : ℕ) (log' : R) (found' written' : ℕ) → found' ≡ counted found → written' ≡ counted written → taken < capacity → taken' ≡ taken + 1 → log' ≡ step log f → Offered step capacity taken log found written dropped (f ∷ []) taken' log' found' written' dropped
-  offered_taken f taken' log' found' written' p q lt t l =
-      let whole : take (capacity - taken) (f ∷ []) ≡ f ∷ [] = take_all (capacity - taken) (f ∷ []) (omega arith) in
-      record { all = λ h. omega arith; took = omega arith; wrote = λ h. omega arith; left = λ h. omega arith; kept = l ∙ sym (ap (fold step log) whole) }
-
-  pub offered_refused : (f : Two) (taken' : ℕ) (log' : R) (found' dropped' : ℕ) → found' ≡ counted found → dropped' ≡ counted dropped → capacity ≤ taken → taken' ≡ taken → log' ≡ log → Offered step capacity taken log found written dropped (f ∷ []) taken' log' found' written dropped'
-  offered_refused f taken' log' found' dropped' p q le t l =
-      let zero : capacity - taken ≡ 0 = omega arith in
-      let none : take (capacity - taken) (f ∷ []) ≡ [] = ap (λ k. take k (f ∷ [])) zero in
-      record { all = λ h. omega arith; took = omega arith; wrote = λ h. omega arith; left = λ h. omega arith; kept = l ∙ sym (ap (fold step log) none) }
-
--- a sink that has room takes, and no other
-pub taken_room : (capacity taken : ℕ) (u : Unit {0}) → Ok u ≡ taking capacity taken → taken < capacity
-taken_room capacity taken u h = go (ltb taken capacity) refl h
-  where
-    go : (b : Bool) → ltb taken capacity ≡ b → Ok u ≡ cond b (Ok (tt {0})) (Err (Sink capacity)) → taken < capacity
-    go true p q = ltb-true _ _ p
-    go false p q = absurd (let z : ◌≡◌ {A = ℕ} 0 1 = cc in omega arith)
-
-pub refused_full : (capacity taken : ℕ) (f : CallerFault) → Err f ≡ taking capacity taken → capacity ≤ taken
-refused_full capacity taken f h = go (ltb taken capacity) refl h
-  where
-    go : (b : Bool) → ltb taken capacity ≡ b → Err f ≡ cond b (Ok (tt {0})) (Err (Sink capacity)) → capacity ≤ taken
-    go true p q = absurd (let z : ◌≡◌ {A = ℕ} 0 1 = cc in omega arith)
-    go false p q = ltb-false _ _ p
+-- an answer is refused only where its test fails
+pub refused_full : (n m : ℕ) (f g : CallerFault) → Err f ≡ cond (ltb n m) (Ok (tt {0})) (Err g) → (m ≤ n) × (f ≡ g)
+refused_full n m f g h =
+    ⊎_elim (λ lt. let e = h ∙ cond-true _ _ _ (lt-ltb _ _ lt) in cc) (λ le. let e = h ∙ cond-false _ _ _ (le-ltb _ _ le) in (le, cc)) (cases_lt n m)
 
 -- the room that the first findings leave to the others
 module _ (n a b : ℕ) where
@@ -112,10 +88,21 @@ offered_more {R} {step} {capacity} {taken} {log} {found} {written} {dropped} {fs
         y ∙ (λ i. x i + (b - room i)) ∙ add_assoc dropped _ _ ∙ ap (λ z. dropped + z) (left_twice n a b ∙ ap (λ z. z - n) (sym long))
 
     kept : log'' ≡ fold step log (take n (fs ++ gs))
-    kept = k.kept ∙ (λ i. fold step (h.kept i) (take (room i) gs)) ∙ sym (ap (fold step log) (take_both n fs gs) ∙ folded_append step log (take n fs) (take (n - min n a) gs))
+    kept = k.kept ∙ (λ i. fold step (h.kept i) (take (room i) gs)) ∙ sym (ap (fold step log) (take_both n fs gs) ∙ fold-append step log (take n fs) (take (n - min n a) gs))
 
 -- the same findings
 pub offered_as : {R : Type 0} {step : R → Two → R} {capacity taken : ℕ} {log : R} {found written dropped : ℕ} {fs gs : List Two} {taken' : ℕ} {log' : R} {found' written' dropped' : ℕ} →
     fs ≡ gs → Offered step capacity taken log found written dropped fs taken' log' found' written' dropped' → Offered step capacity taken log found written dropped gs taken' log' found' written' dropped'
 offered_as {R} {step} {capacity} {taken} {log} {found} {written} {dropped} {fs} {gs} {taken'} {log'} {found'} {written'} {dropped'} e h =
     subst (λ (rs : List Two). Offered step capacity taken log found written dropped rs taken' log' found' written' dropped') e h
+
+module _ {O : Type 0} (o : Sinking O) where
+  pub offering_none : {s : O} {t : Totals} → Offering o s t [] s t
+  offering_none = record { capacity = refl; offers = offered_none }
+
+  pub offering_as : {s s' : O} {t t' : Totals} {fs gs : List Two} → fs ≡ gs → Offering o s t fs s' t' → Offering o s t gs s' t'
+  offering_as e h = record { capacity = h.capacity; offers = offered_as e h.offers }
+
+  -- what is offered after other findings is offered with them
+  pub offering_more : {s s' s'' : O} {t t' t'' : Totals} {fs gs : List Two} → Offering o s t fs s' t' → Offering o s' t' gs s'' t'' → Offering o s t (fs ++ gs) s'' t''
+  offering_more h k = record { capacity = k.capacity ∙ h.capacity; offers = offered_more h.offers h.capacity k.offers }

@@ -1,13 +1,13 @@
 -- What is offered against one thread is what is found against it: the table's accesses conflict with the one that was just told.
-use Rattle.std.proofs.Common.{◌≡◌, ℕ, ◌<◌, Bool, true, false, cond, ◌||◌, ltb, leb, List, [], ◌∷◌, ◌++◌, Some, None, Option, sym, refl, ap, ◌∙◌, arith}
-use Rattle.std.proofs.lemmas.Bool.{false≢true, ltb-true, ltb-false, le-leb, lt-leb, ne_eqb, or_left, or_right}
-use Rattle.std.specs.List.{AllByRecursion}
+use Rattle.std.proofs.Common.{◌≡◌, ℕ, ◌<◌, Bool, true, false, cond, ◌||◌, ltb, leb, ◌⊎◌, List, [], ◌∷◌, ◌++◌, Some, None, Option, sym, refl, ap, ◌∙◌, inl, inr, ⊎_elim, arith}
+use Rattle.std.proofs.lemmas.Bool.{false≢true, ltb-true, ltb-false, le-leb, lt-leb, ne_eqb, or_left, or_right, cond_both}
 use Rattle.event.specs.declared.counts.Counts.{Counts}
 use Rattle.event.specs.declared.letter.Letter.{Letter}
 use Rattle.event.specs.declared.letter.Letter.TheVariants.{Read, Write, Acquire, Release, Fork, Join, Begin, End, Strong, Weak, Downgrade, Stop}
 use Rattle.event.specs.declared.record.Event.{Event}
 use Rattle.event.specs.Ranges.{limit}
 use Rattle.event.specs.Thins.{accesses, access, Placed, Sound}
+use Rattle.event.proofs.Sounds.{sound_first, sound_tail}
 use Rattle.finds.specs.Found.{unless_known, against, against_one}
 use Rattle.finds.specs.Latest.{is_write_letter, is_read, latest}
 use Rattle.finds.proofs.Latests.{looked_up}
@@ -18,43 +18,46 @@ use Rattle.detect.specs.Pairs.{conflicting}
 use Rattle.detect.specs.Reports.{unless_below}
 use Rattle.detect.proofs.Conflicts.{true_conflicting}
 
-pub every_last : {X : Type 0} (P : X → Type 0) (L : List X) (x : X) → AllByRecursion P (L ++ x ∷ []) → P x
-every_last P [] x h = h.0
-every_last P (y ∷ L) x h = every_last P L x h.1
+-- an access reads or writes
+pub access_letter : (l : Letter) → accesses l ≡ true → (l ≡ Read) ⊎ (l ≡ Write)
+access_letter Read h = inl refl
+access_letter Write h = inr refl
+access_letter Acquire h = absurd (false≢true h)
+access_letter Release h = absurd (false≢true h)
+access_letter Fork h = absurd (false≢true h)
+access_letter Join h = absurd (false≢true h)
+access_letter Begin h = absurd (false≢true h)
+access_letter End h = absurd (false≢true h)
+access_letter Strong h = absurd (false≢true h)
+access_letter Weak h = absurd (false≢true h)
+access_letter Downgrade h = absurd (false≢true h)
+access_letter Stop h = absurd (false≢true h)
 
 -- the number of an access is a variable's
 pub access_limit : (c : Counts) (l : Letter) → accesses l ≡ true → limit c l ≡ c.variables
-access_limit c Read h = refl
-access_limit c Write h = refl
-access_limit c Acquire h = absurd (false≢true h)
-access_limit c Release h = absurd (false≢true h)
-access_limit c Fork h = absurd (false≢true h)
-access_limit c Join h = absurd (false≢true h)
-access_limit c Begin h = absurd (false≢true h)
-access_limit c End h = absurd (false≢true h)
-access_limit c Strong h = absurd (false≢true h)
-access_limit c Weak h = absurd (false≢true h)
-access_limit c Downgrade h = absurd (false≢true h)
-access_limit c Stop h = absurd (false≢true h)
+access_limit c l h = ⊎_elim (ap (limit c)) (ap (limit c)) (access_letter l h)
+
+-- an event of a sound list
+pub placed_at : (c : Counts) (T : List Event) (e : Event) (M : List Event) → Sound c (T ++ e ∷ M) → Placed c e
+placed_at c [] e M s = sound_first c e M s
+placed_at c (x ∷ T) e M s = placed_at c T e M (sound_tail c x (T ++ e ∷ M) s)
 
 -- two tests of one order
 unless_same : (known : ℕ) (j : Event) (o : Option Event) → ((i : Event) → o ≡ Some i → conflicting i j ≡ true) → unless_below known j o ≡ unless_known known j o
 unless_same known j None h = refl
-unless_same known j (Some i) h = ap (λ b. cond (leb known i.place) (cond b two []) []) (h i refl) ∙ go (ltb i.place known) refl
-  where
-    two : List Two
-    two = (i, j) ∷ []
-
-    go : (b : Bool) → ltb i.place known ≡ b → cond (leb known i.place) two [] ≡ cond b [] two
-    go true p = ap (λ d. cond d two []) (lt-leb known i.place (ltb-true _ _ p))
-    go false p = ap (λ d. cond d two []) (le-leb known i.place (ltb-false _ _ p))
+unless_same known j (Some i) h =
+    let two : List Two = (i, j) ∷ [] in
+    ap (λ b. cond (leb known i.place) (cond b two []) []) (h i refl)
+    ∙ cond_both (ltb i.place known) [] two (λ fs. cond (leb known i.place) two [] ≡ fs)
+    (λ p. ap (λ d. cond d two []) (lt-leb known i.place (ltb-true _ _ p)))
+    (λ p. ap (λ d. cond d two []) (le-leb known i.place (ltb-false _ _ p)))
 
 pub own_thread : (c : Counts) (T : List Event) (j : Event) → Sound c (T ++ j ∷ []) → j.thread < c.threads
-own_thread c T j s = (every_last (Placed c) T j s.placed).thread
+own_thread c T j s = (placed_at c T j [] s).thread
 
 module _ (c : Counts) (T : List Event) (j : Event) (s : Sound c (T ++ j ∷ [])) (a : access j ≡ true) where
   pub own_variable : j.number < c.variables
-  own_variable = let p = every_last (Placed c) T j s.placed in omega (arith, p.number, access_limit c j.letter a)
+  own_variable = let p = placed_at c T j [] s in omega (arith, p.number, access_limit c j.letter a)
 
   -- a looked_up access of another thread conflicts with j, if one of the two writes
   looked_conflicts : (kind : Letter → Bool) (u : ℕ) → (u ≡ j.thread → ⊥) → ((l : Letter) → kind l ≡ true → (is_write_letter l || is_write_letter j.letter) ≡ true) →
@@ -63,7 +66,7 @@ module _ (c : Counts) (T : List Event) (j : Event) (s : Sound c (T ++ j ∷ []))
       let h = looked_up kind u j.number T (rising_front T (j ∷ []) s.rising) i (sym is ∙ e) in
       true_conflicting i j (record {
         order = older T j s.rising h.0;
-        last = (every_last (Placed c) T j s.placed).place;
+        last = (placed_at c T j [] s).place;
         apart = λ p. apart (sym h.1.thread ∙ p);
         written = written i.letter h.1.letter;
         same = h.1.number;

@@ -1,10 +1,10 @@
 -- One event more: the run goes on with it, or the keeper was full.
-use Rattle.std.proofs.Common.{◌≡◌, ℕ, ◌≤◌, Bool, true, false, cond, ltb, List, [], ◌∷◌, ◌++◌, length, drop, Ok, Err, Result, sym, refl, ap, ◌∙◌, subst, arith}
+use Rattle.std.proofs.Common.{◌≡◌, ℕ, ◌≤◌, true, false, cond, ltb, List, [], ◌∷◌, ◌++◌, length, drop, Err, sym, ap, ◌∙◌, subst, subst₂, arith}
 use Rattle.std.proofs.lemmas.List.{append_assoc}
-use Rattle.std.proofs.lemmas.Bool.{lt-ltb, le-leb, ltb-false, and_from}
+use Rattle.std.proofs.lemmas.Bool.{lt-ltb, le-leb, and_from, cond-true}
 use Rattle.event.specs.declared.counts.Counts.{Counts}
 use Rattle.event.specs.declared.fault.CallerFault.{CallerFault}
-use Rattle.event.specs.declared.fault.CallerFault.TheVariants.{Range, Place, Full}
+use Rattle.event.specs.declared.fault.CallerFault.TheVariants.{Full}
 use Rattle.event.specs.declared.record.Event.{Event}
 use Rattle.event.specs.Ranges.{limit, in_range}
 use Rattle.event.specs.Thins.{Rising, Placed, Sound}
@@ -17,7 +17,8 @@ use Rattle.detect.specs.Reports.{Ready}
 use Rattle.detect.specs.Steps.{counts_of, rest_of, Going, Passes}
 use Rattle.detect.specs.Table.{size, noted, Holds}
 use Rattle.detect.specs.declared.run.Run.{Run}
-use Rattle.detect.proofs.Rivals.{own_thread, own_variable, access_limit}
+use Rattle.detect.proofs.Offering.{refused_full}
+use Rattle.detect.proofs.Rivals.{own_thread, own_variable, access_limit, placed_at}
 use Rattle.detect.proofs.Tabling.{holds_push, noted_spare}
 
 placed_in_range : (c : Counts) (e : Event) → Placed c e → in_range c e ≡ true
@@ -28,40 +29,29 @@ follows_rising [] e M r h = le-leb _ _ h
 follows_rising (x ∷ []) e M r h = and_from _ _ (lt-ltb _ _ r.0.0) (le-leb _ _ h)
 follows_rising (x ∷ y ∷ T) e M r h = follows_rising (y ∷ T) e M r.1 h
 
-placed_at : (c : Counts) (T : List Event) (e : Event) (M : List Event) → Sound c (T ++ e ∷ M) → Placed c e
-placed_at c [] e M s = sound_first c e M s
-placed_at c (x ∷ T) e M s = placed_at c T e M (record { rising = s.rising.1; placed = s.placed.1 })
-
 -- the next event of a sound list is refused only where the keeper is full
 pub told_refused : (c : Counts) (capacity : ℕ) (T : List Event) (e : Event) (M : List Event) (f : CallerFault) → Sound c (T ++ e ∷ M) → length T ≤ capacity → Err f ≡ telling c capacity T e → (f ≡ Full capacity) × (length T ≡ capacity)
-told_refused c capacity T e M f s few h = go (ltb (length T) capacity) refl (h ∙ passed)
-  where
-    good : Result (Unit {0}) CallerFault
-    good = Ok tt
-
-    passed : telling c capacity T e ≡ cond (ltb (length T) capacity) good (Err (Full capacity))
-    passed =
-        λ i. cond (placed_in_range c e (placed_at c T e M s) i)
-        (cond (follows_rising T e M s.rising (placed_at c T e M s).place i) (cond (ltb (length T) capacity) (Ok tt) (Err (Full capacity))) (Err (Place e.place)))
-        (Err (Range e.place))
-
-    go : (b : Bool) → ltb (length T) capacity ≡ b → Err f ≡ cond b good (Err (Full capacity)) → (f ≡ Full capacity) × (length T ≡ capacity)
-    go true p q = absurd (let z : ◌≡◌ {A = ℕ} 0 1 = cc in omega arith)
-    go false p q = let same : f ≡ Full capacity = cc in (same, omega (arith, ltb-false _ _ p, few))
+told_refused c capacity T e M f s few h =
+    let p = placed_at c T e M s in
+    let told =
+    h
+    ∙ cond-true (in_range c e) _ _ (placed_in_range c e p)
+    ∙ cond-true (follows (last_place T) e.place) _ _ (follows_rising T e M s.rising p.place) in
+    let r = refused_full (length T) capacity f (Full capacity) told in
+    (r.1, omega (arith, r.0, few))
 
 module _ {S K O : Type 0} {s : Giving S} {k : Keeping K} {o : Sinking O} {mid is : Run S K O} {e : Event} (was : Run S K O)
     (rest : rest_of s was ≡ e ∷ rest_of s mid) (counts : counts_of s mid ≡ counts_of s was) (keeper_counts : k.counts mid.keeper.now ≡ k.counts was.keeper.now)
     (told : (T : List Event) → k.told was.keeper.now T → k.told mid.keeper.now (T ++ e ∷ [])) (latest : mid.latest ≡ was.latest) (passes : Passes s k o mid is e) where
   whole_sound : (T : List Event) → Going s k was T → Sound (counts_of s mid) ((T ++ e ∷ []) ++ rest_of s mid)
   whole_sound T g =
-      subst (λ L. Sound (counts_of s mid) L) (ap (λ M. T ++ M) rest ∙ sym (append_assoc T (e ∷ []) (rest_of s mid)))
-      (subst (λ c. Sound c (T ++ rest_of s was)) (sym counts) g.sound)
+      subst₂ (λ (c : Counts) L. Sound c L) (sym counts) (ap (λ M. T ++ M) rest ∙ sym (append_assoc T (e ∷ []) (rest_of s mid))) g.sound
 
   pub ready_next : (T : List Event) → Going s k was T → Ready s k mid T e
   ready_next T g = record {
     told = told T g.told;
     counts = keeper_counts ∙ g.counts ∙ sym counts;
-    holds = subst (λ l. Holds (counts_of s mid) T l.now) (sym latest) (subst (λ c. Holds c T was.latest.now) (sym counts) g.holds);
+    holds = subst₂ (λ c l. Holds c T l.now) (sym counts) (sym latest) g.holds;
     sound = sound_front (counts_of s mid) (T ++ e ∷ []) (rest_of s mid) (whole_sound T g);
   }
 
@@ -73,7 +63,7 @@ module _ {S K O : Type 0} {s : Giving S} {k : Keeping K} {o : Sinking O} {mid is
       record {
         told = subst (λ x. k.told x.now (T ++ e ∷ [])) (sym passes.keeper) r.told;
         counts = ap (λ x. k.counts x.now) passes.keeper ∙ r.counts ∙ sym same;
-        holds = subst (λ c. Holds c (T ++ e ∷ []) is.latest.now) (sym same) (subst (Holds (counts_of s mid) (T ++ e ∷ [])) (sym passes.latest) table);
+        holds = subst₂ (λ c l. Holds c (T ++ e ∷ []) l) (sym same) (sym passes.latest) table;
         sound = subst (λ x. Sound (s.counts x.now) ((T ++ e ∷ []) ++ s.rest x.now)) (sym passes.source) (whole_sound T g);
       }
 

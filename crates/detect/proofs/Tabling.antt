@@ -1,51 +1,33 @@
 -- The table of latest accesses: its slots are apart, a cleared one holds nothing, and one more access keeps it right.
-use Rattle.std.proofs.Common.{◌≡◌, ℕ, ◌+◌, ◌*◌, ◌<◌, ◌≤◌, min, Bool, true, false, cond, eqb, ◌⊎◌, List, [], ◌∷◌, ◌++◌, length, get_or, drop, set, replicate, Some, None, Option, sym, refl, ap, ◌∙◌, inl, inr, ⊎_elim, mul-le-mul_right, mul_assoc, mul_comm, add-mul, arith}
-use native.Mathlib.Decide.{dec_lt}
-use Rattle.std.proofs.lemmas.List.{get_or_append_left, get_or-replicate, get_or-set_same, get_or-set_other, length-set, length-append, length-replicate, length-drop, drop_at, drop-set-lt}
-use Rattle.std.proofs.lemmas.Bool.{false≢true, both_ways, and_from, and_left, and_right, eq-eqb, ne_eqb, cases_eq}
+use Rattle.std.proofs.Common.{◌≡◌, ℕ, ◌+◌, ◌*◌, ◌/◌, ◌%◌, ◌<◌, ◌≤◌, min, Bool, true, false, cond, eqb, ◌⊎◌, List, [], ◌∷◌, ◌++◌, length, get_or, drop, set, replicate, Some, None, Option, sym, refl, ap, ◌∙◌, inl, inr, ⊎_elim, mul-le-mul_right, mul_assoc, mul_comm, add-mul, arith}
+use Rattle.std.proofs.lemmas.List.{get_or_append_left, get_or-replicate, get_or-set_same, get_or-set_other, length-set, length-replicate, drop_at, drop-set-lt}
+use Rattle.std.proofs.lemmas.Nat.{div-mul-add, mod-mul-add}
+use Rattle.std.proofs.lemmas.Bool.{false_from_ne_true, both_ways, and_from, and_left, and_right, eq-eqb, ne_eqb, cases_eq, cond_both}
 use Rattle.event.specs.declared.counts.Counts.{Counts}
 use Rattle.event.specs.declared.letter.Letter.{Letter}
-use Rattle.event.specs.declared.letter.Letter.TheVariants.{Read, Write, Acquire, Release, Fork, Join, Begin, End, Strong, Weak, Downgrade, Stop}
+use Rattle.event.specs.declared.letter.Letter.TheVariants.{Read, Write}
 use Rattle.event.specs.declared.record.Event.{Event}
 use Rattle.event.specs.Thins.{accesses, access}
 use Rattle.finds.specs.Latest.{is_write_letter, is_read, touches, latest}
-use Rattle.finds.proofs.Latests.{latest_push}
-use Rattle.stamp.specs.Tables.{cleared}
+use Rattle.finds.proofs.Latests.{write_is, read_is, latest_push}
+use Rattle.event.proofs.Clearing.{length_cleared}
+use Rattle.event.specs.Tables.{cleared}
 use Rattle.detect.specs.Table.{size, slot, noted, Holds}
+use Rattle.detect.proofs.Rivals.{access_letter}
 
--- a row and a column that are not the same give another place
-row_apart : (n u v u' v' : ℕ) → u < n → u' < n → v < v' → v * n + u < v' * n + u'
-row_apart n u v u' v' p q lt =
-    let step : (v + 1) * n ≤ v' * n = mul-le-mul_right n (omega arith) in
-    omega (arith, step, add-mul v 1 n)
-
+-- a place has one row and one column
 pair_once : (n u v u' v' : ℕ) → u < n → u' < n → v * n + u ≡ v' * n + u' → (v ≡ v') × (u ≡ u')
-pair_once n u v u' v' p q e =
-    elim (dec_lt v v') [
-      | yes lt ↦ absurd (omega (arith, row_apart n u v u' v' p q lt))
-      | no ge ↦ elim (dec_lt v' v) [
-        | yes gt ↦ absurd (omega (arith, row_apart n u' v' u v q p gt))
-        | no le ↦
-            let same : v ≡ v' = omega arith in
-            (same, omega (arith, ap (λ w. w * n) same))
-      ]
-    ]
+pair_once n u v u' v' p q e = (
+  sym (div-mul-add v n u p) ∙ ap (λ m. m / n) e ∙ div-mul-add v' n u' q,
+  sym (mod-mul-add v n u p) ∙ ap (λ m. m % n) e ∙ mod-mul-add v' n u' q,
+)
 
 slot_within : (c : Counts) (l : Letter) (u v : ℕ) → u < c.threads → v < c.variables → slot c l u v < size c
-slot_within c l u v p q = go (is_write_letter l)
-  where
-    n : ℕ
-    n = c.threads
-
-    row : (v + 1) * n ≤ c.variables * n
-    row = mul-le-mul_right n (omega arith)
-
-    all : size c ≡ 2 * (c.variables * n)
-    all = mul_assoc 2 c.threads c.variables ∙ ap (λ x. 2 * x) (mul_comm c.threads c.variables)
-
-    go : (b : Bool) → 2 * (v * c.threads + u) + cond b 0 1 < size c
-    go true = omega (arith, row, all, add-mul v 1 n, p)
-    go false = omega (arith, row, all, add-mul v 1 n, p)
+slot_within c l u v p q =
+    let row : (v + 1) * c.threads ≤ c.variables * c.threads = mul-le-mul_right c.threads (omega arith) in
+    let all : size c ≡ 2 * (c.variables * c.threads) = mul_assoc 2 c.threads c.variables ∙ ap (λ x. 2 * x) (mul_comm c.threads c.variables) in
+    let kind : cond (is_write_letter l) 0 1 ≤ 1 = cond_both (is_write_letter l) 0 1 (λ n. n ≤ 1) (λ e. omega arith) (λ e. omega arith) in
+    omega (arith, row, all, kind, add-mul v 1 c.threads, p)
 
 -- entries of different kinds, threads or variables have different slots
 slot_once : (c : Counts) (l m : Letter) (u v u' v' : ℕ) → u < c.threads → u' < c.threads → slot c l u v ≡ slot c m u' v' → (is_write_letter l ≡ is_write_letter m) × (v ≡ v') × (u ≡ u')
@@ -62,10 +44,6 @@ cleared_at n x xs k lt le =
     get_or_append_left (replicate (min n (length xs)) x) (drop n xs) x k (omega (arith, length-replicate (min n (length xs)) x))
     ∙ get_or-replicate (min n (length xs)) k x x (omega arith)
 
-pub length_cleared : {X : Type 0} (n : ℕ) (x : X) (xs : List X) → length (cleared n x xs) ≡ length xs
-length_cleared n x xs =
-    omega (arith, length-append (replicate (min n (length xs)) x) (drop n xs), length-replicate (min n (length xs)) x, length-drop n xs)
-
 -- clearing leaves the entries behind
 pub cleared_spare : {X : Type 0} (n : ℕ) (x : X) (xs : List X) → n ≤ length xs → drop n (cleared n x xs) ≡ drop n xs
 cleared_spare n x xs h = drop_at (replicate (min n (length xs)) x) (drop n xs) n (length-replicate (min n (length xs)) x ∙ omega arith)
@@ -78,35 +56,12 @@ holds_none c table h = record {
   read = λ u v p q. cleared_at (size c) None table (slot c Read u v) (slot_within c Read u v p q) h;
 }
 
--- an access reads or writes
-access_letter : (l : Letter) → accesses l ≡ true → (l ≡ Read) ⊎ (l ≡ Write)
-access_letter Read h = inl refl
-access_letter Write h = inr refl
-access_letter Acquire h = absurd (false≢true h)
-access_letter Release h = absurd (false≢true h)
-access_letter Fork h = absurd (false≢true h)
-access_letter Join h = absurd (false≢true h)
-access_letter Begin h = absurd (false≢true h)
-access_letter End h = absurd (false≢true h)
-access_letter Strong h = absurd (false≢true h)
-access_letter Weak h = absurd (false≢true h)
-access_letter Downgrade h = absurd (false≢true h)
-access_letter Stop h = absurd (false≢true h)
-
 -- an event that is no access is of neither kind
 no_access : (l : Letter) → accesses l ≡ false → (is_write_letter l ≡ false) × (is_read l ≡ false)
-no_access Read h = absurd (both_ways true h refl)
-no_access Write h = absurd (both_ways true h refl)
-no_access Acquire h = (refl, refl)
-no_access Release h = (refl, refl)
-no_access Fork h = (refl, refl)
-no_access Join h = (refl, refl)
-no_access Begin h = (refl, refl)
-no_access End h = (refl, refl)
-no_access Strong h = (refl, refl)
-no_access Weak h = (refl, refl)
-no_access Downgrade h = (refl, refl)
-no_access Stop h = (refl, refl)
+no_access l h = (
+  false_from_ne_true _ (λ k. both_ways (accesses l) h (ap accesses (write_is l k))),
+  false_from_ne_true _ (λ k. both_ways (accesses l) h (ap accesses (read_is l k))),
+)
 
 -- an event of another kind, thread or number
 untouched : (kind : Letter → Bool) (u v : ℕ) (e : Event) → (kind e.letter ≡ false) ⊎ ((e.thread ≡ u → ⊥) ⊎ (e.number ≡ v → ⊥)) → touches kind u v e ≡ false
@@ -144,24 +99,12 @@ module _ (c : Counts) (T : List Event) (table : List (Option Event)) (h : Holds 
   holds_access : access e ≡ true → e.thread < c.threads → e.number < c.variables → Holds c (T ++ e ∷ []) (set table (slot c e.letter e.thread e.number) (Some e))
   holds_access a own var = record {
     long = omega (arith, h.long, length-set table (slot c e.letter e.thread e.number) (Some e));
-    write = λ u v p q. noted_at is_write_letter Write own var write_sort write_unsort u v p q (h.write u v p q);
-    read = λ u v p q. noted_at is_read Read own var read_sort read_unsort u v p q (h.read u v p q);
+    write = λ u v p q. noted_at is_write_letter Write own var (write_is e.letter) (both_ways _) u v p q (h.write u v p q);
+    read = λ u v p q. noted_at is_read Read own var (read_is e.letter) read_unsort u v p q (h.read u v p q);
   }
     where
-      kinds : (e.letter ≡ Read) ⊎ (e.letter ≡ Write)
-      kinds = access_letter e.letter a
-
-      write_sort : is_write_letter e.letter ≡ true → e.letter ≡ Write
-      write_sort k = ⊎_elim (λ s. absurd (both_ways (is_write_letter e.letter) (ap is_write_letter s) k)) (λ s. s) kinds
-
-      write_unsort : is_write_letter e.letter ≡ false → is_write_letter e.letter ≡ is_write_letter Write → ⊥
-      write_unsort k s = both_ways (is_write_letter e.letter) k s
-
-      read_sort : is_read e.letter ≡ true → e.letter ≡ Read
-      read_sort k = ⊎_elim (λ s. s) (λ s. absurd (both_ways (is_read e.letter) (ap is_read s) k)) kinds
-
       read_unsort : is_read e.letter ≡ false → is_write_letter e.letter ≡ is_write_letter Read → ⊥
-      read_unsort k s = ⊎_elim (λ r. both_ways (is_read e.letter) k (ap is_read r)) (λ w. both_ways (is_write_letter e.letter) s (ap is_write_letter w)) kinds
+      read_unsort k s = ⊎_elim (λ r. both_ways (is_read e.letter) k (ap is_read r)) (λ w. both_ways (is_write_letter e.letter) s (ap is_write_letter w)) (access_letter e.letter a)
 
   -- one more event that is no access
   holds_other : access e ≡ false → Holds c (T ++ e ∷ []) table

@@ -1,5 +1,5 @@
 -- What a report of the overlaps of monitors does.
-use Rattle.std.specs.Prelude.{◌≡◌, ℕ, ◌+◌, ◌-◌, ◌<◌, cond, ◌↔◌, List, [], map, Some, None, Ok, Err, Option, Result, ◌≢◌}
+use Rattle.std.specs.Prelude.{◌≡◌, ℕ, ◌+◌, ◌-◌, ◌<◌, cond, ◌↔◌, List, [], map, Some, None, Option, ◌≢◌}
 use mathlib.Core.List.{Memᴰ}
 use Rattle.event.specs.declared.counts.Counts.{Counts}
 use Rattle.event.specs.declared.record.Event.{Event}
@@ -10,12 +10,7 @@ use Rattle.monitor.specs.declared.level.Level.{Level}
 use Rattle.monitor.specs.Overlaps.{event_at, just_after, Rises, Meet, Overlap, Overlaps, InOrder, gathered, named, raises}
 use Rattle.detect.specs.Pairs.{pair_of}
 use Rattle.detect.specs.Reports.{if_conflicting}
-use Rattle.detect.specs.declared.run.Totals.{Totals}
-
--- an answer with its value left out
-abbrev pub answered : {A E : Type 0} → Result A E → Result (Unit {0}) E
-answered (Ok a) = Ok tt
-answered (Err f) = Err f
+use Rattle.detect.specs.declared.totals.Totals.{Totals}
 
 -- what is offered where two accesses may be named
 abbrev pub if_named : Option Two → List Two

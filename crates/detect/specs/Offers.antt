@@ -1,9 +1,9 @@
 -- What it is to offer findings to a sink, one after another.
-use Rattle.std.specs.Prelude.{◌≡◌, ℕ, ◌+◌, ◌-◌, ◌^◌, ◌≤◌, min, List, length, take, fold}
+use Rattle.std.specs.Prelude.{◌≡◌, ℕ, ◌+◌, ◌-◌, ◌^◌, ◌≤◌, min, List, ◌++◌, length, take, fold, codes, decimal}
 use Rattle.order.specs.Runs.{Two}
 use Rattle.sink.specs.declared.sink.Sink.{Ghosts as Sinking}
 use Rattle.detect.specs.Pairs.{pair_of}
-use Rattle.detect.specs.declared.run.Totals.{Totals}
+use Rattle.detect.specs.declared.totals.Totals.{Totals}
 
 -- what a counter can hold
 abbrev pub most : ℕ
@@ -23,6 +23,10 @@ pub record Offered {R : Type 0} (step : R → Two → R) (capacity taken : ℕ) 
   pub left : dropped + length fs ≤ most → dropped' ≡ dropped + (length fs - (capacity - taken))
   pub kept : log' ≡ fold step log (take (capacity - taken) fs)
 
+-- as `found 3 written 3 dropped 0`
+abbrev pub shown : Totals → List ℕ
+shown t = codes "found " ++ (decimal t.found ++ (codes " written " ++ (decimal t.written ++ (codes " dropped " ++ decimal t.dropped))))
+
 -- no finding yet
 abbrev pub none : Totals
 none = record { found = 0; written = 0; dropped = 0 }
@@ -32,3 +36,8 @@ abbrev pub OffersTo : {O : Type 0} → Sinking O → O → Totals → List Two �
 OffersTo o sink t fs sink' t' =
     Offered (λ l p. o.step l (pair_of p)) (o.capacity sink) (o.taken sink) (o.log sink) t.found t.written t.dropped fs
     (o.taken sink') (o.log sink') t'.found t'.written t'.dropped
+
+-- the same, and the sink's capacity is as it was
+pub record Offering {O : Type 0} (o : Sinking O) (sink : O) (t : Totals) (fs : List Two) (sink' : O) (t' : Totals) : Type 0 where
+  pub capacity : o.capacity sink' ≡ o.capacity sink
+  pub offers : OffersTo o sink t fs sink' t'

@@ -6,8 +6,8 @@ use Rattle.order.specs.Runs.{Two}
 use Rattle.keeper.specs.declared.keeper.Keeper.{Ghosts as Keeping}
 use Rattle.sink.specs.declared.sink.Sink.{Ghosts as Sinking}
 use Rattle.source.specs.declared.source.Source.{Ghosts as Giving}
-use Rattle.detect.specs.Offers.{Offered}
-use Rattle.detect.specs.Pairs.{pair_of, conflicting}
+use Rattle.detect.specs.Offers.{OffersTo}
+use Rattle.detect.specs.Pairs.{conflicting}
 use Rattle.detect.specs.Table.{Holds}
 use Rattle.detect.specs.declared.run.Run.{Run}
 
@@ -23,11 +23,9 @@ unless_below known j (Some i) = cond (nat_le known i.place) (if_conflicting i j)
 module _ {S K O : Type 0} where
   -- findings were offered to the run's sink
   abbrev pub Offers : Sinking O → Run S K O → List Two → Run S K O → Type 0
-  Offers o was fs is =
-      Offered (λ l p. o.step l (pair_of p)) (o.capacity was.sink.now) (o.taken was.sink.now) (o.log was.sink.now) was.found was.written was.dropped fs
-      (o.taken is.sink.now) (o.log is.sink.now) is.found is.written is.dropped
+  Offers o was fs is = OffersTo o was.sink.now was.totals fs is.sink.now is.totals
 
-  -- nothing but what the sink means and the counts is another
+  -- nothing but what the sink means and the totals is another
   pub record Aside (o : Sinking O) (was is : Run S K O) : Type 0 where
     pub source : is.source ≡ was.source
     pub keeper : is.keeper ≡ was.keeper

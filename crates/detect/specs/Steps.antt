@@ -62,9 +62,7 @@ module _ {S K O : Type 0} where
     pub keeper : is.keeper ≡ was.keeper
     pub latest : is.latest ≡ was.latest
     pub sink : is.sink ≡ was.sink
-    pub found : is.found ≡ was.found
-    pub written : is.written ≡ was.written
-    pub dropped : is.dropped ≡ was.dropped
+    pub totals : is.totals ≡ was.totals
     pub ended : is.ended ≡ true
 
   -- An event is told; or the run stops, since there is none, or since the keeper refuses it, which it does only where it is full. A run that has

@@ -11,13 +11,13 @@ use Rattle.order.specs.Runs.{Finds, Ran}
 use Rattle.keeper.specs.declared.keeper.Keeper.{Ghosts as Keeping}
 use Rattle.sink.specs.declared.sink.Sink.{Ghosts as Sinking}
 use Rattle.source.specs.declared.source.Source.{Ghosts as Giving}
-use Rattle.stamp.specs.Tables.{cleared}
+use Rattle.event.specs.Tables.{cleared}
 use Rattle.detect.specs.Pairs.{pair_of}
 use Rattle.detect.specs.Reports.{Offers}
 use Rattle.detect.specs.Steps.{counts_of, rest_of}
 use Rattle.detect.specs.Table.{size}
 use Rattle.detect.specs.declared.run.Run.{Run}
-use Rattle.detect.specs.declared.run.Totals.{Totals}
+use Rattle.detect.specs.declared.totals.Totals.{Totals}
 
 -- a keeper and a table that were cleared for a run
 pub record ClearsFor {K : Type 0} (k : Keeping K) (c : Counts) (keeper keeper' : K) (latest latest' : List (Option Event)) : Type 0 where

@@ -5,6 +5,7 @@ ghost use Rattle.sink.specs.Taking.{Takes};
 ghost use Rattle.detect.specs.Offers.{counted};
 ghost use Rattle.detect.specs.Pairs.{conflicting};
 
+use event::intake::LAST_PLACE;
 use event::{CallerFault, Event, Letter};
 use sink::{Pair, Sink};
 
@@ -12,6 +13,7 @@ use sink::{Pair, Sink};
 // Letting go of one that is still owed fails the proof.
 pub struct Finding {
     pair: Pair,
+    // Stays a flag: `offer` and `give_up` ask for no more than a `&mut`, a settled finding still has its pair, and `drop` requires that it is settled.
     owed: bool,
     ghost order: { pair.earlier.place < pair.later.place },
     ghost last: { pair.later.place ≤ 999999 },
@@ -33,7 +35,7 @@ impl Drop for Finding {
 pub(crate) fn is_write(letter: Letter) -> bool
     ensures { result ≡ is_write_letter letter }
 {
-    matches!(letter, Letter::Write)
+    letter == Letter::Write
 }
 
 // Whether the two events can be a finding.
@@ -41,7 +43,7 @@ fn is_conflicting(earlier: Event, later: Event) -> bool
     ensures { result ≡ conflicting earlier later }
 {
     earlier.place < later.place
-        && later.place <= 999_999
+        && later.place <= LAST_PLACE
         && earlier.thread != later.thread
         && (is_write(earlier.letter) || is_write(later.letter))
         && earlier.number == later.number

@@ -10,5 +10,6 @@ pub mod whole;
 
 pub use finding::Finding;
 pub use overlaps::report;
-pub use run::{Run, Step, Totals};
+pub use run::{Run, Step};
+pub use totals::Totals;
 pub use whole::run_all;

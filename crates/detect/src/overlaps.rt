@@ -4,83 +4,75 @@ ghost use Rattle.event.specs.Thins.{Sound};
 ghost use Rattle.source.specs.Listed.{listed};
 ghost use Rattle.monitor.specs.Checks.{checked, Judged, left};
 ghost use Rattle.monitor.specs.Overlaps.{event_at, reported};
+ghost use Rattle.monitor.specs.Lent.{LeftWith};
 ghost use Rattle.monitor.specs.Tables.{stepped, tabled};
-ghost use Rattle.detect.specs.Meetings.{answered, if_named, named_by, if_raised, Reports};
-ghost use Rattle.detect.specs.Offers.{none, OffersTo};
+ghost use Rattle.event.specs.Answers.{answered};
+ghost use Rattle.detect.specs.Meetings.{if_named, named_by, if_raised, Reports};
+ghost use Rattle.detect.specs.Offers.{none, Offering};
 
-use crate::run::Totals;
-use event::{Counts, Event};
+use crate::totals::Totals;
+use event::Event;
 use monitor::overlap::named;
-use monitor::table::{clear, step_up};
+use monitor::table::Levels;
 use monitor::{Level, PlacementFault, check};
 use sink::Sink;
 use source::EventList;
 
 // Offers two accesses, where they are named and can be a finding.
 fn offer_named<O: Sink>(two: Option<(Event, Event)>, sink: &mut O, totals: &mut Totals)
-    ensures capacity { O.Sink.capacity sink.new ≡ O.Sink.capacity sink.old }
-    ensures offers { OffersTo O.Sink sink.old totals.old (if_named two) sink.new totals.new }
+    ensures { Offering O.Sink sink.old totals.old (if_named two) sink.new totals.new }
 {
-    match two {
-        None => {}
-        Some((earlier, later)) => totals.find(sink, earlier, later),
+    if let Some((earlier, later)) = two {
+        totals.find(sink, earlier, later);
     }
 }
 
 // Offers what the event at an index and each other thread name, in rising order, with the levels of the moment just after the event.
 fn against_all<O: Sink>(
-    counts: Counts,
+    levels: &Levels<'_>,
     events: &[Event],
     index: usize,
-    levels: &[Level],
     sink: &mut O,
     totals: &mut Totals,
 )
-    ensures capacity { O.Sink.capacity sink.new ≡ O.Sink.capacity sink.old }
-    ensures offers { OffersTo O.Sink sink.old totals.old (named_by counts events.now index levels.now counts.threads) sink.new totals.new }
+    ensures { Offering O.Sink sink.old totals.old (named_by levels.now.counts events.now index levels.now.table.now levels.now.counts.threads) sink.new totals.new }
 {
-    let threads = counts.threads() as u8;
+    // A thread is its number: there is no list of them to go over.
+    let threads = levels.counts.threads() as u8;
     for other in 0..threads {
-        let two = named(counts, events, index, other, levels);
+        let two = named(levels.counts, events, index, other, levels.table);
         offer_named(two, sink, totals);
     }
 }
 
 // Follows the levels over the event at an index, and offers what it gives if it is a rise.
 fn over<O: Sink>(
-    counts: Counts,
+    levels: &mut Levels<'_>,
     events: &[Event],
     index: usize,
-    levels: &mut [Level],
     sink: &mut O,
     totals: &mut Totals,
 )
     requires { index < length events.now }
-    ensures levels { levels.new ≡ stepped counts levels.old (event_at events.now index) }
-    ensures capacity { O.Sink.capacity sink.new ≡ O.Sink.capacity sink.old }
-    ensures offers { OffersTo O.Sink sink.old totals.old (if_raised counts events.now index levels.old levels.new) sink.new totals.new }
+    ensures levels { LeftWith levels.old levels.new (stepped levels.old.counts levels.old.table.now (event_at events.now index)) }
+    ensures offers { Offering O.Sink sink.old totals.old (if_raised levels.old.counts events.now index levels.old.table.now levels.new.table.now) sink.new totals.new }
 {
-    if step_up(counts, levels, events[index]) {
-        against_all(counts, events, index, levels, sink, totals);
+    if levels.step_up(events[index]) {
+        against_all(levels, events, index, sink, totals);
     }
 }
 
 // Follows the levels from event to event, and offers what each rise gives. The levels are left as they are after the last event.
-fn each_rise<O: Sink>(
-    counts: Counts,
-    events: &[Event],
-    levels: &mut [Level],
-    sink: &mut O,
-) -> Totals
-    requires sound { Sound counts events.now }
-    requires clear { levels.old ≡ tabled counts [] levels.old }
-    ensures levels { levels.new ≡ tabled counts events.now levels.old }
-    ensures capacity { O.Sink.capacity sink.new ≡ O.Sink.capacity sink.old }
-    ensures offers { OffersTo O.Sink sink.old none (reported counts events.now) sink.new result }
+fn each_rise<O: Sink>(levels: &mut Levels<'_>, events: &[Event], sink: &mut O) -> Totals
+    requires sound { Sound levels.old.counts events.now }
+    requires clear { levels.old.table.now ≡ tabled levels.old.counts [] levels.old.table.now }
+    ensures levels { LeftWith levels.old levels.new (tabled levels.old.counts events.now levels.old.table.now) }
+    ensures offers { Offering O.Sink sink.old none (reported levels.old.counts events.now) sink.new result }
 {
     let mut totals = Totals::none();
+    // By index: what a rise gives is looked for at its index, among all events.
     for i in 0..events.len() {
-        over(counts, events, i, levels, sink, &mut totals);
+        over(levels, events, i, sink, &mut totals);
     }
     totals
 }
@@ -100,6 +92,10 @@ pub fn report<O: Sink>(
 {
     check(list, levels)?;
     let counts = list.counts();
-    clear(counts, levels);
-    Ok(each_rise(counts, list.as_slice(), levels, sink))
+    let mut lent = Levels {
+        counts,
+        table: levels,
+    };
+    lent.clear();
+    Ok(each_rise(&mut lent, list.as_slice(), sink))
 }

@@ -5,6 +5,8 @@ pub mod report;
 pub mod start;
 pub mod steps;
 
+pub use crate::totals::Totals;
+
 // A run is not copied, and only this library makes one.
 #[derive(Drop)]
 pub struct Run<'s, 'k, 'l, 'o, S, K, O> {
@@ -12,9 +14,8 @@ pub struct Run<'s, 'k, 'l, 'o, S, K, O> {
     keeper: &'k mut K,
     latest: &'l mut [Option<Event>],
     sink: &'o mut O,
-    found: u64,
-    written: u64,
-    dropped: u64,
+    totals: Totals,
+    // Stays a flag, since an ended run may still be asked for a step: it answers that it has ended, and `totals` requires that it has.
     ended: bool,
 }
 
@@ -27,12 +28,4 @@ pub enum Step {
     Ended,
     // the keeper refused an event, and the run has ended
     Refused(CallerFault),
-}
-
-// How many findings there were, how many of them a sink has taken and how many were given up.
-#[derive(Clone, Copy, PartialEq, Eq, Debug)]
-pub struct Totals {
-    pub found: u64,
-    pub written: u64,
-    pub dropped: u64,
 }

@@ -7,3 +7,6 @@ pub mod Entries
 pub mod Thins
 pub mod Offers
 pub mod Sieves
+pub mod Tables
+pub mod Intakes
+pub mod Answers

@@ -1,6 +1,7 @@
 // What a caller did wrong.
-ghost use Rattle.std.specs.Prelude.{◌≡◌};
 ghost use Rattle.event.specs.Faults.{caller_filed};
+
+use crate::filed::{Fault, Filed};
 
 // Each fault carries the place that is reported with it.
 #[derive(Clone, Copy, PartialEq, Eq, Debug)]
@@ -23,40 +24,24 @@ pub enum CallerFault {
     Sampling,
 }
 
-impl CallerFault {
-    pub fn number(&self) -> u8
-        ensures { result ≡ (caller_filed self.now).number }
-    {
-        match self {
-            CallerFault::Counts { .. } => 3,
-            CallerFault::Range { .. } => 7,
-            CallerFault::Table { .. } => 12,
-            CallerFault::Place { .. } => 13,
-            CallerFault::Thread { .. } => 14,
-            CallerFault::Full { .. } => 15,
-            CallerFault::Sink { .. } => 16,
-            CallerFault::Sampling => 17,
-        }
-    }
+impl Fault for CallerFault {
+    ghost filing = { caller_filed };
 
-    pub fn layer(&self) -> u8
-        ensures { result ≡ (caller_filed self.now).layer }
-    {
-        6
-    }
-
-    pub fn place(&self) -> usize
-        ensures { result ≡ (caller_filed self.now).place }
-    {
-        match self {
-            CallerFault::Counts { count } => *count,
-            CallerFault::Range { place } => *place,
-            CallerFault::Table { size } => *size,
-            CallerFault::Place { place } => *place,
-            CallerFault::Thread { thread } => *thread,
-            CallerFault::Full { capacity } => *capacity,
-            CallerFault::Sink { capacity } => *capacity,
-            CallerFault::Sampling => 0,
+    fn filed(&self) -> Filed {
+        let (number, place) = match self {
+            CallerFault::Counts { count } => (3, *count),
+            CallerFault::Range { place } => (7, *place),
+            CallerFault::Table { size } => (12, *size),
+            CallerFault::Place { place } => (13, *place),
+            CallerFault::Thread { thread } => (14, *thread),
+            CallerFault::Full { capacity } => (15, *capacity),
+            CallerFault::Sink { capacity } => (16, *capacity),
+            CallerFault::Sampling => (17, 0),
+        };
+        Filed {
+            number,
+            layer: 6,
+            place,
         }
     }
 }

@@ -1,4 +1,11 @@
 // What an event does.
+ghost use Rattle.std.specs.Prelude.{◌≡◌, Some, ok_or, codes, ◌++◌, decimal};
+ghost use Rattle.event.specs.declared.letter.UnknownLetter.{UnknownLetter};
+ghost use Rattle.event.specs.Letters.{code, letter_at, SpellsLetter};
+
+use std::error::Error;
+use std::fmt;
+
 #[derive(Clone, Copy, PartialEq, Eq, Debug)]
 pub enum Letter {
     Read,
@@ -15,3 +22,74 @@ pub enum Letter {
     Downgrade,
     Stop,
 }
+
+// A byte that is no letter's.
+#[derive(Clone, Copy, PartialEq, Eq, Debug)]
+pub struct UnknownLetter {
+    pub byte: u8,
+}
+
+impl Letter {
+    // The letter's byte in a trace file.
+    pub fn code(self) -> u8
+        ensures { result ≡ code self }
+    {
+        match self {
+            Letter::Read => b'r',
+            Letter::Write => b'w',
+            Letter::Acquire => b'a',
+            Letter::Release => b'l',
+            Letter::Fork => b'f',
+            Letter::Join => b'j',
+            Letter::Begin => b'b',
+            Letter::End => b'e',
+            Letter::Strong => b'M',
+            Letter::Weak => b'N',
+            Letter::Downgrade => b'D',
+            Letter::Stop => b'Q',
+        }
+    }
+}
+
+impl From<Letter> for u8 {
+    ghost from_gives = { λ letter byte. byte ≡ code letter };
+
+    fn from(letter: Letter) -> u8 {
+        letter.code()
+    }
+}
+
+// The letter with this byte in a trace file.
+impl TryFrom<u8> for Letter {
+    type Error = UnknownLetter;
+
+    ghost try_from_gives = { SpellsLetter };
+
+    fn try_from(byte: u8) -> Result<Letter, UnknownLetter> {
+        match byte {
+            b'r' => Ok(Letter::Read),
+            b'w' => Ok(Letter::Write),
+            b'a' => Ok(Letter::Acquire),
+            b'l' => Ok(Letter::Release),
+            b'f' => Ok(Letter::Fork),
+            b'j' => Ok(Letter::Join),
+            b'b' => Ok(Letter::Begin),
+            b'e' => Ok(Letter::End),
+            b'M' => Ok(Letter::Strong),
+            b'N' => Ok(Letter::Weak),
+            b'D' => Ok(Letter::Downgrade),
+            b'Q' => Ok(Letter::Stop),
+            _ => Err(UnknownLetter { byte }),
+        }
+    }
+}
+
+impl fmt::Display for UnknownLetter {
+    ghost output = { λ u. Some (codes "no letter has the byte " ++ decimal u.byte) };
+
+    fn fmt<W: fmt::Write>(&self, f: &mut fmt::Formatter<W>) -> fmt::Result {
+        write!(f, "no letter has the byte {}", self.byte)
+    }
+}
+
+impl Error for UnknownLetter {}

@@ -4,7 +4,6 @@ use mathlib.Core.List.Memᴰ
 use mathlib.Core.List.{Memᴰ}
 use native.Mathlib.Decide.{dec_lt}
 use Rattle.std.proofs.lemmas.List.{append_assoc}
-use Rattle.std.specs.List.{AllByRecursion}
 use Rattle.event.specs.declared.counts.Counts.{Counts}
 use Rattle.event.specs.declared.letter.Letter.{Letter}
 use Rattle.event.specs.declared.letter.Letter.TheVariants.{Read, Write}
@@ -12,6 +11,7 @@ use Rattle.event.specs.declared.record.Event.{Event}
 use Rattle.event.specs.Entries.{LatestOf}
 use Rattle.event.specs.Order.{◌∈◌, Within, Chain, Access, reads, writes}
 use Rattle.event.specs.Thins.{Rising, Placed, Sound, accesses, access, Thins}
+use Rattle.event.proofs.Members.{every_in}
 use Rattle.event.proofs.Thinning.{access_true}
 use Rattle.order.specs.Finds.{Alike}
 use Rattle.order.specs.Runs.{Two, Finds, Lists}
@@ -209,9 +209,5 @@ module _ (n : ℕ) (W T M : List Event) (r : Rising (T ++ M)) (t : Thins W (T ++
     ordered = order_after n [] T (rising_front T M r);
   }
 
-every_in : (P : Event → Type 0) (L : List Event) → AllByRecursion P L → (e : Event) → e ∈ L → P e
-every_in P [] h e m = absurd (Memᴰ.not-nil m)
-every_in P (x ∷ L) h e m = ⊎_elim (λ s. subst P (sym s) h.0) (λ k. every_in P L h.1 e k) (Memᴰ.cases_cons m)
-
 pub findings_exact : (c : Counts) (W T M : List Event) → Sound c (T ++ M) → Thins W (T ++ M) → Lists W T (found_all c.threads T)
-findings_exact c W T M s t = all_lists c.threads W T M s.rising t (λ i m. (every_in (Placed c) (T ++ M) s.placed i (Memᴰ.append_left M m)).thread)
+findings_exact c W T M s t = all_lists c.threads W T M s.rising t (λ i m. (every_in (Placed c) (T ++ M) s.placed (Memᴰ.append_left M m)).thread)

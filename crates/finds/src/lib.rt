@@ -3,8 +3,6 @@
 
 ghost use Rattle.finds.specs.Theorems.{TheFindingsAreTheRaces};
 
-pub fn the_findings_are_the_races() -> u8
+pub fn the_findings_are_the_races()
     ensures { TheFindingsAreTheRaces }
-{
-    0
-}
+{}

@@ -13,7 +13,8 @@ use Rattle.format.specs.declared.fault.EventFault.TheVariants.{Letter as NoLette
 use Rattle.format.specs.declared.fault.OrderFault.{OrderFault}
 use Rattle.format.specs.declared.fault.OrderFault.TheVariants.{Events}
 use Rattle.format.specs.Parse.{map_ok, lift, and_then}
-use Rattle.format.specs.Events.{letter_at, judged, event_body, read_event, got_event, got_events}
+use Rattle.event.specs.Letters.{letter_at}
+use Rattle.format.specs.Events.{judged, event_body, read_event, got_event, got_events}
 use Rattle.format.specs.Standings.{Standing, stepped, ruled_from}
 use Rattle.format.proofs.Steps.{err_ok, ok_ok, then_ok, lift_then_ok, map_ok_parts}
 

@@ -24,7 +24,8 @@ use Rattle.format.specs.Parse.{map_ok, lift, and_then, here, take_from, two_from
 use Rattle.format.specs.Names.{within, all_good_bytes, name_from}
 use Rattle.format.specs.Items.{Item, thread, object, variable, named, item_from, items_from, cons_item, section_body, section_from}
 use Rattle.format.specs.Codes.{two, four, code_name, code_item, code_section, code_letter, code_event}
-use Rattle.format.specs.Events.{letter_at, judged, event_body, read_event}
+use Rattle.event.specs.Letters.{letter_at}
+use Rattle.format.specs.Events.{judged, event_body, read_event}
 use Rattle.format.specs.Standings.{Standing, stepped, moved, fresh, ruled_from, kind_of, kinds_of, kind_at, kind_table}
 use Rattle.format.specs.Layout.{magic_body, magic_from, block_body, block_from, laid_as, with_variables, with_objects, with_threads, with_magic, layout}
 use Rattle.format.specs.Trace.{Contents, declared_counts, contents, ordered, read_trace}

@@ -17,7 +17,8 @@ use Rattle.format.specs.declared.fault.EventFault.TheVariants.{Letter as NoLette
 use Rattle.format.specs.declared.fault.OrderFault.{OrderFault}
 use Rattle.format.specs.declared.fault.OrderFault.TheVariants.{Events, Mutex as BadMutex, Life as BadLife}
 use Rattle.format.specs.Parse.{map_ok, and_then}
-use Rattle.format.specs.Events.{letter_at, judged, event_body, read_event}
+use Rattle.event.specs.Letters.{letter_at}
+use Rattle.format.specs.Events.{judged, event_body, read_event}
 use Rattle.format.specs.Codes.{code_letter, code_event}
 use Rattle.format.specs.Standings.{Standing, kind_at, lives, locks, moved, stepped, ruled_from}
 use Rattle.format.specs.Encode.{GoodEvent, Numbered, AllBytes}

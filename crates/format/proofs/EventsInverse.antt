@@ -14,7 +14,8 @@ use Rattle.format.specs.declared.kinds.ObjectKind.{ObjectKind}
 use Rattle.format.specs.declared.fault.EventFault.{EventFault}
 use Rattle.format.specs.declared.fault.EventFault.TheVariants.{Letter as NoLetter, Range, Region}
 use Rattle.format.specs.declared.fault.OrderFault.{OrderFault}
-use Rattle.format.specs.Events.{letter_at, judged, event_body, read_event}
+use Rattle.event.specs.Letters.{letter_at}
+use Rattle.format.specs.Events.{judged, event_body, read_event}
 use Rattle.format.specs.Standings.{Standing, ruled_from}
 use Rattle.format.specs.Codes.{code_letter, code_event}
 use Rattle.format.specs.Encode.{GoodEvent, Numbered, AllBytes}

@@ -1,31 +1,15 @@
 -- Events, six bytes each.
-use Rattle.std.specs.Prelude.{ℕ, zero, suc, ◌+◌, ◌*◌, cond, List, [], ◌∷◌, length, drop, Some, None, Ok, Err, Option, Result, ◌==◌, nat_le, slice_index}
+use Rattle.std.specs.Prelude.{ℕ, zero, suc, ◌+◌, ◌*◌, cond, List, [], ◌∷◌, length, drop, Ok, Err, Result, ◌==◌, nat_le, slice_index}
 use Rattle.std.specs.Option.{ok_or}
 use Rattle.event.specs.declared.letter.Letter.{Letter}
-use Rattle.event.specs.declared.letter.Letter.TheVariants.{Read, Write, Acquire, Release, Fork, Join, Begin, End, Strong, Weak, Downgrade, Stop}
 use Rattle.event.specs.declared.record.Event.{Event}
 use Rattle.event.specs.declared.counts.Counts.{Counts}
+use Rattle.event.specs.Letters.{letter_at}
 use Rattle.event.specs.Ranges.{in_range}
 use Rattle.event.specs.Thins.{access}
 use Rattle.format.specs.declared.fault.EventFault.{EventFault}
 use Rattle.format.specs.declared.fault.EventFault.TheVariants.{Letter as NoLetter, Range, Region}
 use Rattle.format.specs.Parse.{and_then}
-
--- the letter that a byte spells
-abbrev pub letter_at : ℕ → Option Letter
-letter_at b =
-    cond (b == 114) (Some Read)
-    (cond (b == 119) (Some Write)
-    (cond (b == 97) (Some Acquire)
-    (cond (b == 108) (Some Release)
-    (cond (b == 102) (Some Fork)
-    (cond (b == 106) (Some Join)
-    (cond (b == 98) (Some Begin)
-    (cond (b == 101) (Some End)
-    (cond (b == 77) (Some Strong)
-    (cond (b == 78) (Some Weak)
-    (cond (b == 68) (Some Downgrade)
-    (cond (b == 81) (Some Stop) None)))))))))))
 
 -- in range, and with no region unless it is an access
 abbrev pub judged : Counts → Event → Result Event EventFault

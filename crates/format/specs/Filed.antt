@@ -1,5 +1,6 @@
 -- The number, the layer and the place of each fault of a file.
-use Rattle.event.specs.Faults.{Filed, filed}
+use Rattle.event.specs.declared.filed.Filed.{Filed}
+use Rattle.event.specs.Faults.{filed}
 use Rattle.format.specs.declared.fault.ByteFault.{ByteFault}
 use Rattle.format.specs.declared.fault.ByteFault.TheVariants.{Ends, Magic}
 use Rattle.format.specs.declared.fault.SectionFault.{SectionFault}

@@ -1,4 +1,5 @@
 pub mod Filed
+pub mod Kinds
 pub mod Parse
 pub mod Names
 pub mod Items

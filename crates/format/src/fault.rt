@@ -5,6 +5,8 @@ ghost use Rattle.format.specs.declared.fault.EventFault.TheVariants.{Sections};
 ghost use Rattle.format.specs.declared.fault.OrderFault.TheVariants.{Events};
 ghost use Rattle.format.specs.Filed.{byte_filed, section_filed, event_filed, order_filed};
 
+use event::{Fault, Filed};
+
 #[derive(Clone, Copy, PartialEq, Eq, Debug)]
 pub enum ByteFault {
     // the file ends inside the item that begins at this offset
@@ -76,125 +78,71 @@ impl From<SectionFault> for OrderFault {
     }
 }
 
-impl ByteFault {
-    pub fn number(&self) -> u8
-        ensures { result ≡ (byte_filed self.now).number }
-    {
-        match self {
-            ByteFault::Ends { .. } => 1,
-            ByteFault::Magic => 2,
-        }
-    }
+impl Fault for ByteFault {
+    ghost filing = { byte_filed };
 
-    pub fn layer(&self) -> u8
-        ensures { result ≡ (byte_filed self.now).layer }
-    {
-        1
-    }
-
-    pub fn place(&self) -> usize
-        ensures { result ≡ (byte_filed self.now).place }
-    {
-        match self {
-            ByteFault::Ends { offset } => *offset,
-            ByteFault::Magic => 0,
+    fn filed(&self) -> Filed {
+        let (number, place) = match self {
+            ByteFault::Ends { offset } => (1, *offset),
+            ByteFault::Magic => (2, 0),
+        };
+        Filed {
+            number,
+            layer: 1,
+            place,
         }
     }
 }
 
-impl SectionFault {
-    pub fn number(&self) -> u8
-        ensures { result ≡ (section_filed self.now).number }
-    {
-        match self {
-            SectionFault::Bytes(b) => b.number(),
-            SectionFault::Count { .. } => 3,
-            SectionFault::Entry { .. } => 4,
-            SectionFault::Left { .. } => 5,
-        }
-    }
+impl Fault for SectionFault {
+    ghost filing = { section_filed };
 
-    pub fn layer(&self) -> u8
-        ensures { result ≡ (section_filed self.now).layer }
-    {
-        match self {
-            SectionFault::Bytes(b) => b.layer(),
-            _ => 2,
-        }
-    }
-
-    pub fn place(&self) -> usize
-        ensures { result ≡ (section_filed self.now).place }
-    {
-        match self {
-            SectionFault::Bytes(b) => b.place(),
-            SectionFault::Count { offset } => *offset,
-            SectionFault::Entry { offset } => *offset,
-            SectionFault::Left { offset } => *offset,
+    fn filed(&self) -> Filed {
+        let (number, place) = match self {
+            SectionFault::Bytes(b) => return b.filed(),
+            SectionFault::Count { offset } => (3, *offset),
+            SectionFault::Entry { offset } => (4, *offset),
+            SectionFault::Left { offset } => (5, *offset),
+        };
+        Filed {
+            number,
+            layer: 2,
+            place,
         }
     }
 }
 
-impl EventFault {
-    pub fn number(&self) -> u8
-        ensures { result ≡ (event_filed self.now).number }
-    {
-        match self {
-            EventFault::Sections(s) => s.number(),
-            EventFault::Letter { .. } => 6,
-            EventFault::Range { .. } => 7,
-            EventFault::Region { .. } => 8,
-        }
-    }
+impl Fault for EventFault {
+    ghost filing = { event_filed };
 
-    pub fn layer(&self) -> u8
-        ensures { result ≡ (event_filed self.now).layer }
-    {
-        match self {
-            EventFault::Sections(s) => s.layer(),
-            _ => 3,
-        }
-    }
-
-    pub fn place(&self) -> usize
-        ensures { result ≡ (event_filed self.now).place }
-    {
-        match self {
-            EventFault::Sections(s) => s.place(),
-            EventFault::Letter { place } => *place,
-            EventFault::Range { place } => *place,
-            EventFault::Region { place } => *place,
+    fn filed(&self) -> Filed {
+        let (number, place) = match self {
+            EventFault::Sections(s) => return s.filed(),
+            EventFault::Letter { place } => (6, *place),
+            EventFault::Range { place } => (7, *place),
+            EventFault::Region { place } => (8, *place),
+        };
+        Filed {
+            number,
+            layer: 3,
+            place,
         }
     }
 }
 
-impl OrderFault {
-    pub fn number(&self) -> u8
-        ensures { result ≡ (order_filed self.now).number }
-    {
-        match self {
-            OrderFault::Events(e) => e.number(),
-            OrderFault::Mutex { .. } => 9,
-            OrderFault::Life { .. } => 10,
-        }
-    }
+impl Fault for OrderFault {
+    ghost filing = { order_filed };
 
-    pub fn layer(&self) -> u8
-        ensures { result ≡ (order_filed self.now).layer }
-    {
-        match self {
-            OrderFault::Events(e) => e.layer(),
-            _ => 4,
-        }
-    }
-
-    pub fn place(&self) -> usize
-        ensures { result ≡ (order_filed self.now).place }
-    {
-        match self {
-            OrderFault::Events(e) => e.place(),
-            OrderFault::Mutex { place } => *place,
-            OrderFault::Life { place } => *place,
+    fn filed(&self) -> Filed {
+        let (number, place) = match self {
+            OrderFault::Events(e) => return e.filed(),
+            OrderFault::Mutex { place } => (9, *place),
+            OrderFault::Life { place } => (10, *place),
+        };
+        Filed {
+            number,
+            layer: 4,
+            place,
         }
     }
 }

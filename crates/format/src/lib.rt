@@ -7,4 +7,4 @@ pub mod kinds;
 
 pub use exact::files_are_read_exactly;
 pub use fault::{ByteFault, EventFault, OrderFault, SectionFault};
-pub use kinds::{ObjectKind, SectionKind, Stage};
+pub use kinds::{ObjectKind, SectionKind, Stage, UnknownKind};

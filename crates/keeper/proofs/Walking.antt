@@ -1,11 +1,10 @@
 -- A walk backwards finds the entry. At an index i it has met the events from i on that lead to t: flags are up for their threads, for t
 -- itself, and for the objects that they acquire. An event leads to t exactly where its first step leads to one of those.
-use Rattle.std.proofs.Common.{◌≡◌, ℕ, suc, ◌+◌, ◌-◌, ◌^◌, ◌<◌, ◌≤◌, min, Bool, true, false, ◌⊎◌, List, length, get_or, drop, set, replicate, Some, None, Option, sym, refl, ap, ◌∙◌, subst, inl, inr, ⊎_elim, arith, length-set, drop-cons, get_or-set_other, get_or-set_same}
+use Rattle.std.proofs.Common.{◌≡◌, ℕ, suc, ◌+◌, ◌-◌, ◌^◌, ◌<◌, ◌≤◌, min, Bool, true, false, ◌⊎◌, List, [], ◌∷◌, ◌++◌, length, append_assoc, add-zero, length-append, get_or, drop, set, replicate, Some, None, Option, sym, refl, ap, ◌∙◌, subst, inl, inr, ⊎_elim, arith, length-set, drop-cons, get_or-set_other, get_or-set_same}
 use mathlib.Core.List.Memᴰ
-use lib.ListN.{length-replicate}
-use lib.Seq.{drop-length}
+use Rattle.std.proofs.Math.Seq.{drop-length, drop-append_seam}
 use borrow.Author.Tests.{both_ways, clash}
-use Rattle.std.proofs.lemmas.List.{get_or_past, get_or-replicate}
+use Rattle.std.proofs.lemmas.List.{append-nil, get_or_past, get_or-drop, get_or-replicate, length-replicate, length_push}
 use Rattle.std.proofs.lemmas.Bool.{cases_eq, cases_lt, or_cases, or_left, or_right}
 use Rattle.std.specs.Option.{option_map}
 use Rattle.event.specs.declared.counts.Counts.{Counts}
@@ -212,3 +211,28 @@ module _ (c : Counts) (L : List Event) (sound : Sound c L) (t u : ℕ) where
   -- where none of u is met, there is none
   pub met_all : (ts os : List Bool) → Met c L t u 0 ts os → IsEntry L t u 0
   met_all ts os met = nothing refl (λ f s r. met.none f (chain_first r.chain) s r)
+
+-- ---- walking back
+
+-- Of the events of a list those at its front are still ahead, and e is the last of these.
+pub record LastAhead (L ahead rest : List Event) (e : Event) : Type 0 where
+  pub long : length ahead ≡ suc (length rest)
+  pub within : length rest < length L
+  pub here : e ≡ get_or L (length rest) blank
+  pub split : L ≡ rest ++ drop (length rest) L
+
+pub last_ahead : (L ahead rest : List Event) (e : Event) → L ≡ ahead ++ drop (length ahead) L → ahead ≡ rest ++ e ∷ [] → LastAhead L ahead rest e
+last_ahead L ahead rest e split last =
+    let behind = drop (length ahead) L in
+    let whole : L ≡ rest ++ e ∷ behind = split ∙ ap (λ l. l ++ behind) last ∙ append_assoc rest (e ∷ []) behind in
+    let from : drop (length rest) L ≡ e ∷ behind = ap (drop (length rest)) whole ∙ drop-append_seam rest (e ∷ behind) in
+    record {
+      long = omega (arith, ap length last, length_push rest e);
+      within = omega (arith, ap length whole, length-append rest (e ∷ behind));
+      here = sym (sym (get_or-drop (length rest) L 0 blank ∙ ap (λ k. get_or L k blank) (add-zero (length rest))) ∙ ap (λ l. get_or l 0 blank) from);
+      split = whole ∙ ap (λ l. rest ++ l) (sym from);
+    }
+
+-- before the first event is met all are ahead
+pub all_ahead : (L ahead : List Event) → ahead ≡ L → L ≡ ahead ++ drop (length ahead) L
+all_ahead L ahead all = subst (λ l. L ≡ l ++ drop (length l) L) (sym all) (sym (ap (λ l. L ++ l) (drop-length L) ∙ append-nil L))

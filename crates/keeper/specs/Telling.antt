@@ -1,10 +1,12 @@
 -- What a keeper answers: to a clearing, to a telling and to a question.
-use Rattle.std.specs.Prelude.{ℕ, ◌≤◌, Bool, cond, ◌&&◌, List, [], ◌∷◌, length, Some, None, Ok, Err, Option, Result, nat_le, nat_lt}
+use Rattle.std.specs.Prelude.{ℕ, ◌≤◌, cond, List, length, Some, None, Ok, Err, Option, Result, nat_lt}
+use Rattle.std.specs.Result.{result_err}
 use Rattle.event.specs.declared.counts.Counts.{Counts}
 use Rattle.event.specs.declared.fault.CallerFault.{CallerFault}
-use Rattle.event.specs.declared.fault.CallerFault.TheVariants.{Range, Place, Thread, Full}
+use Rattle.event.specs.declared.fault.CallerFault.TheVariants.{Thread}
 use Rattle.event.specs.declared.record.Event.{Event}
-use Rattle.event.specs.Ranges.{in_range}
+pub use Rattle.event.specs.Intakes.{last_place, follows, admitting}
+use Rattle.event.specs.Answers.{answered}
 use Rattle.event.specs.Thins.{Sound}
 use Rattle.order.specs.Marks.{entry}
 use Rattle.stamp.specs.Slots.{unless_lacking}
@@ -17,23 +19,6 @@ pub record Fits (c : Counts) (capacity : ℕ) (es : List Event) : Type 0 where
 -- the answer to a clearing: refused where a table is too small, by the size needed
 abbrev pub clearing : Option ℕ → Result (Unit {0}) CallerFault
 clearing lacks = unless_lacking lacks (Ok tt)
-
-abbrev pub last_place : List Event → Option ℕ
-last_place [] = None
-last_place (e ∷ []) = Some e.place
-last_place (e ∷ f ∷ es) = last_place (f ∷ es)
-
--- the place p can come after the last one
-abbrev pub follows : Option ℕ → ℕ → Bool
-follows None p = nat_le p 999999
-follows (Some q) p = nat_lt q p && nat_le p 999999
-
--- the answer to a telling, after n events of which the last has a place: the thread and the number, then the place, then the capacity
-abbrev pub admitting : Counts → ℕ → ℕ → Option ℕ → Event → Result (Unit {0}) CallerFault
-admitting c capacity n last e =
-    cond (in_range c e)
-    (cond (follows last e.place) (cond (nat_lt n capacity) (Ok tt) (Err (Full capacity))) (Err (Place e.place)))
-    (Err (Range e.place))
 
 -- the answer to a telling after the events es
 abbrev pub telling : Counts → ℕ → List Event → Event → Result (Unit {0}) CallerFault
@@ -54,10 +39,4 @@ asking c es t u = unless (undeclared c t u) (entry es t u)
 
 -- the refusal in an answer
 abbrev pub fault_of : {A : Type 0} → Result A CallerFault → Option CallerFault
-fault_of (Ok a) = None
-fault_of (Err f) = Some f
-
--- an answer with its value left out
-abbrev pub done : {A : Type 0} → Result A CallerFault → Result (Unit {0}) CallerFault
-done (Ok a) = Ok tt
-done (Err f) = Err f
+fault_of r = result_err r

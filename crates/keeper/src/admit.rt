@@ -1,45 +1,8 @@
-// The tests that every keeper makes.
+// The test that every keeper makes of a question.
 ghost use Rattle.std.specs.Prelude.{◌≡◌};
-ghost use Rattle.keeper.specs.Telling.{follows, admitting, undeclared, unless};
+ghost use Rattle.keeper.specs.Telling.{undeclared, unless};
 
-use event::{CallerFault, Counts, Event};
-
-// Whether a place can come after the last one.
-fn follows(last: Option<u32>, place: u32) -> bool
-    ensures { result ≡ follows last place }
-{
-    match last {
-        Some(q) => q < place && place <= 999_999,
-        None => place <= 999_999,
-    }
-}
-
-// Whether an event can be told after so many others.
-pub fn admit(
-    counts: Counts,
-    capacity: usize,
-    told: usize,
-    last: Option<u32>,
-    e: Event,
-) -> Result<(), CallerFault>
-    ensures { result ≡ admitting counts capacity told last e }
-{
-    if !counts.in_range(e) {
-        return Err(CallerFault::Range {
-            place: e.place as usize,
-        });
-    }
-    if !follows(last, e.place) {
-        return Err(CallerFault::Place {
-            place: e.place as usize,
-        });
-    }
-    if told < capacity {
-        Ok(())
-    } else {
-        Err(CallerFault::Full { capacity })
-    }
-}
+use event::{CallerFault, Counts};
 
 // Whether both threads are declared.
 pub fn declared(counts: Counts, t: usize, u: usize) -> Result<(), CallerFault>

@@ -1,16 +1,15 @@
 // A keeper of the order by clocks, over tables that it is lent.
 use crate::plain::PlainCounts;
+use event::Intake;
 use stamp::Clock;
 
 pub mod keeping;
-pub mod tables;
 
-// A clock for each thread and for each object, how many events were told, and the place of the last.
+// What was told, and a clock for each thread and for each object.
 #[derive(Drop)]
 pub struct Clocks<'a> {
     plain: PlainCounts,
+    told: Intake,
     threads: &'a mut [Clock],
     objects: &'a mut [Clock],
-    told: usize,
-    last: Option<u32>,
 }

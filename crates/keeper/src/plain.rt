@@ -1,11 +1,11 @@
-// Counts as a keeper holds them, beside the tables that it is lent.
+// Counts as the clocks hold them, beside the tables that they are lent.
 ghost use Rattle.std.specs.Prelude.{◌≡◌};
 ghost use Rattle.keeper.specs.Kept.{counts_of};
 
 use event::Counts;
 
-// The toolchain takes no `Result` of a struct that holds both a `&mut` and a struct with an invariant, so the three numbers stand here
-// by themselves. They mean the counts within the limits that are nearest to them.
+// The toolchain proves no function with a `Result` of a struct that holds both a `&mut` and a struct with a ghost field, as `Clocks::new`
+// would be, so the three numbers stand here by themselves. They mean the counts within the limits that are nearest to them.
 #[derive(Clone, Copy)]
 pub struct PlainCounts {
     threads: usize,

@@ -1,15 +1,13 @@
 // A keeper of the order that stores the events in a list that it is lent, and walks back over them when it is asked.
-use crate::plain::PlainCounts;
-use event::Event;
+use event::{Counts, Event, Intake};
 
 pub mod back;
 pub mod keeping;
 
-// How many events were told, and the place of the last.
+// What was told, and the events of it at the list's front.
 #[derive(Drop)]
 pub struct Walk<'a> {
-    plain: PlainCounts,
+    counts: Counts,
+    told: Intake,
     events: &'a mut [Event],
-    told: usize,
-    last: Option<u32>,
 }

@@ -1,7 +1,7 @@
 -- Regions by index and by place have the same moments, since in a rising list indices and places go alike.
-use Rattle.std.proofs.Common.{◌≡◌, ℕ, suc, ◌<◌, ◌≤◌, true, eqb, ◌↔◌, List, length, Some, None, Option, sym, refl, ap, subst, ⊎_elim, arith}
+use Rattle.std.proofs.Common.{rules, ◌≡◌, ℕ, suc, ◌<◌, ◌≤◌, true, eqb, ◌↔◌, List, length, Some, Option, sym, ap, subst, arith}
 use mathlib.Core.List.Memᴰ
-use Rattle.std.proofs.lemmas.Bool.{false≢true, and_from, and_parts, eq-eqb, eqb-true, cases_order}
+use Rattle.std.proofs.lemmas.Bool.{and_from, and_parts, eq-eqb, eqb-true}
 use Rattle.event.specs.declared.object.Object.{Object}
 use Rattle.event.specs.declared.record.Event.{Event}
 use Rattle.event.specs.Objects.{released, acquired}
@@ -16,17 +16,12 @@ use Rattle.monitor.specs.Regions.{acquires_of, releases_of, InRegion}
 use Rattle.monitor.proofs.Spans.{front, front_most, back, back_most}
 
 any_some : (a : Option Object) → any_object a ≡ true → (o : Object) × (a ≡ Some o)
-any_some None h = absurd (false≢true h)
-any_some (Some o) h = (o, refl)
+any_some = search rules
 
 module _ (L : List Event) (up : Rising L) where
   -- an event with a lower place has a lower index
   lower_index : (i j : ℕ) → i < length L → j < length L → (event_at L i).place < (event_at L j).place → i < j
-  lower_index i j li lj lt =
-      ⊎_elim
-      (λ s. absurd (omega (arith, ap (λ n. (event_at L n).place) s)))
-      (λ o. ⊎_elim (λ b. b) (λ b. absurd (let h = rising_at L up j i blank b li in omega arith)) o)
-      (cases_order i j)
+  lower_index = search (rules, rising_at)
 
   module _ (p k : ℕ) (lp : p < length L) (lk : k ≤ length L) where
     abbrev t : ℕ

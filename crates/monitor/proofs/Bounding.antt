@@ -1,6 +1,6 @@
 -- The last event and the first event that pass a test.
-use Rattle.std.proofs.Common.{◌≡◌, ℕ, zero, suc, ◌+◌, ◌<◌, ◌≤◌, Bool, true, false, cond, List, [], ◌∷◌, ◌++◌, length, get_or, sym, ap, ◌∙◌, subst, ⊎_elim, arith}
-use Rattle.std.proofs.lemmas.Bool.{cond_both, both_ways, cases_lt}
+use Rattle.std.proofs.Common.{rules, ◌≡◌, ℕ, zero, suc, ◌+◌, ◌<◌, ◌≤◌, Bool, true, false, cond, List, [], ◌∷◌, ◌++◌, length, get_or, sym, ap, ◌∙◌, subst, arith}
+use Rattle.std.proofs.lemmas.Bool.{cond_both, both_ways}
 use Rattle.event.specs.declared.record.Event.{Event}
 use Rattle.monitor.specs.Placement.{blank}
 use Rattle.monitor.specs.Regions.{after_last_from, after_last, before_first}
@@ -70,26 +70,14 @@ module _ (test : Event → Bool) where
   before_first_within (x ∷ L) =
       cond_both (test x) 0 (suc (before_first test L)) (λ n. n ≤ suc (length L)) (λ _. omega arith) (λ _. let m = before_first_within L in omega arith)
 
-  pub after_last_within : (L : List Event) → after_last test L ≤ length L
-  after_last_within L = after_last_below L (length L) (λ j lt p. lt)
-
   pub after_last_is : (L : List Event) (i : ℕ) → i < length L → test (get_or L i blank) ≡ true → ((j : ℕ) → i < j → j < length L → test (get_or L j blank) ≡ false) → after_last test L ≡ suc i
-  after_last_is L i lt h none =
-      let low = after_last_above L i lt h in
-      let high = after_last_below L (suc i) (λ j lj p. ⊎_elim (λ b. absurd (both_ways _ (none j b lj) p)) (λ b. omega arith) (cases_lt i j)) in
-      omega arith
+  after_last_is = search (rules, after_last_above, after_last_below)
 
   pub after_last_none : (L : List Event) → ((j : ℕ) → j < length L → test (get_or L j blank) ≡ false) → after_last test L ≡ 0
   after_last_none L none = let high = after_last_below L 0 (λ j lj p. absurd (both_ways _ (none j lj) p)) in omega arith
 
   pub before_first_is : (L : List Event) (i : ℕ) → i < length L → test (get_or L i blank) ≡ true → ((j : ℕ) → j < i → test (get_or L j blank) ≡ false) → before_first test L ≡ i
-  before_first_is L i lt h none =
-      let high = before_first_below L i lt h in
-      let low = before_first_above L i (omega arith) (λ j lj p. ⊎_elim (λ b. absurd (both_ways _ (none j b) p)) (λ b. b) (cases_lt j i)) in
-      omega arith
+  before_first_is = search (rules, before_first_below, before_first_above)
 
   pub before_first_none : (L : List Event) → ((j : ℕ) → j < length L → test (get_or L j blank) ≡ false) → before_first test L ≡ length L
-  before_first_none L none =
-      let low = before_first_above L (length L) (omega arith) (λ j lj p. absurd (both_ways _ (none j lj) p)) in
-      let high = before_first_within L in
-      omega arith
+  before_first_none = search (rules, before_first_above, before_first_within)

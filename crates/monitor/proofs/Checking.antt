@@ -1,9 +1,9 @@
 -- The check looks only where a moment can be uncovered, and finds the lowest uncovered one.
-use Rattle.std.proofs.Common.{◌≡◌, ℕ, suc, ◌+◌, ◌<◌, ◌≤◌, Bool, true, false, not, ◌&&◌, eqb, ltb, ◌⊎◌, List, length, get_or, take, Some, None, sym, refl, ap, ◌∙◌, ap₂, inl, inr, ⊎_elim, add-one, arith}
+use Rattle.std.proofs.Common.{rules, ◌≡◌, ℕ, suc, ◌+◌, ◌<◌, ◌≤◌, Bool, true, false, not, ◌&&◌, ltb, ◌⊎◌, List, length, get_or, take, Some, None, sym, refl, ap, ◌∙◌, ap₂, inl, inr, ⊎_elim, add-one, arith}
 use Rattle.std.proofs.lemmas.List.FromFn.{get_or-map-range_with_len}
 use Rattle.std.proofs.ByRecursion.{All-get_or}
 use Rattle.std.proofs.lemmas.List.{take_more}
-use Rattle.std.proofs.lemmas.Bool.{both_ways, cases_Bool, cases_eq, and_left, and_parts, or_parts, ne_eqb, not-true, cases_lt}
+use Rattle.std.proofs.lemmas.Bool.{both_ways, cases_Bool, cases_eq, and_left, and_parts, or_parts, ne_eqb, not-true}
 use Rattle.event.specs.declared.counts.Counts.{Counts}
 use Rattle.event.specs.declared.record.Event.{Event}
 use Rattle.event.specs.Objects.{released}
@@ -15,8 +15,10 @@ use Rattle.monitor.specs.Levels.{rank, level_at}
 use Rattle.monitor.specs.Looks.{monitors, can_uncover, span, mark, thread_bare}
 use Rattle.monitor.specs.Placement.{blank, Held, Covered, any_below, held, covered, exposed, uncovered, lowest}
 use Rattle.monitor.specs.Regions.{releases_of}
+use Rattle.monitor.specs.declared.table.Levels.{Levels}
+use Rattle.monitor.specs.Lent.{LeftWith}
 use Rattle.monitor.specs.Tables.{stepped, tabled}
-use Rattle.monitor.proofs.Covering.{covered_iff, exposed_marked, held_held, held_not}
+use Rattle.monitor.proofs.Covering.{covered_iff, exposed_marked, held_not}
 use Rattle.monitor.proofs.Leveling.{level_next, keeps_other, keeps_thread}
 use Rattle.monitor.proofs.Marking.{suits_access}
 use Rattle.monitor.proofs.Searching.{any_from, any_none, none_any, any_same, least_none, least_some}
@@ -42,14 +44,10 @@ still_covered L k t v lk calm same c =
     )
 
 calm_thread : (e : Event) (t : ℕ) → (e.thread ≡ t → ⊥) → releases_of t e ≡ false
-calm_thread e t ne = and_left (eqb e.thread t) (any_object (released e)) (ne_eqb e.thread t ne)
+calm_thread = search rules
 
 calm_release : (e : Event) (t : ℕ) → any_object (released e) ≡ false → releases_of t e ≡ false
-calm_release e t h = go (eqb e.thread t)
-  where
-    go : (b : Bool) → (b && any_object (released e)) ≡ false
-    go true = h
-    go false = refl
+calm_release = search rules
 
 -- only an event of t, and of these only a release or one that sets a level, can uncover a level of t
 pub only_some : (L : List Event) (k t v : ℕ) → k < length L → (can_uncover (get_or L k blank) ≡ false) ⊎ ((get_or L k blank).thread ≡ t → ⊥) →
@@ -70,18 +68,10 @@ exposed_parts L k t v h =
     (held_not (level_at L k t v) w.0, λ c. both_ways (covered L k t v) (not-true (covered L k t v) w.1) ((covered_iff L k t v).1 c))
 
 pub safe_covered : (L : List Event) (k t v : ℕ) → exposed L k t v ≡ false → Held L k t v → Covered L k t v
-safe_covered L k t v h held = go (covered L k t v) refl
-  where
-    go : (b : Bool) → covered L k t v ≡ b → Covered L k t v
-    go true p = (covered_iff L k t v).0 p
-    go false p = absurd (both_ways (exposed L k t v) h (ap₂ (λ a b. a && not b) (held_held (level_at L k t v) held) p))
+safe_covered = search (rules, covered_iff)
 
 pub covered_safe : (L : List Event) (k t v : ℕ) → (Held L k t v → Covered L k t v) → exposed L k t v ≡ false
-covered_safe L k t v h = go (exposed L k t v) refl
-  where
-    go : (b : Bool) → exposed L k t v ≡ b → b ≡ false
-    go true p = let w = exposed_parts L k t v p in absurd (w.1 (h w.0))
-    go false p = refl
+covered_safe = search (rules, exposed_parts)
 
 -- ---- one event more
 
@@ -144,15 +134,11 @@ lowest_none c L h = least_none 0 (suc (length L)) (uncovered c L) (λ j le lt. h
 
 module _ (c : Counts) (L : List Event) (sound : Sound c L) (i : ℕ) (lt : i < length L) (xs levels next : List Level) (so : levels ≡ tabled c (take i L) xs) (went : next ≡ stepped c levels (get_or L i blank)) where
   -- the table has the levels of the next moment
-  pub turned : next ≡ tabled c (take (i + 1) L) xs
-  turned =
-      went
-      ∙ ap (λ l. stepped c l (get_or L i blank)) so
-      ∙ tabled_step c (take i L) (get_or L i blank) (placed_at c L sound i lt xs) xs
-      ∙ ap (λ M. tabled c M xs) (sym (take_more L i blank lt))
+  turned : next ≡ tabled c (take (i + 1) L) xs
+  turned = search (rules, take_more, tabled_step, placed_at)
 
   -- and the look tells whether that moment is uncovered
-  pub told : {r : Bool} → uncovered c L i ≡ false → r ≡ (can_uncover (get_or L i blank) && thread_bare c L (i + 1) (get_or L i blank).thread next) → uncovered c L (i + 1) ≡ r
+  told : {r : Bool} → uncovered c L i ≡ false → r ≡ (can_uncover (get_or L i blank) && thread_bare c L (i + 1) (get_or L i blank).thread next) → uncovered c L (i + 1) ≡ r
   told before looked =
       let e = get_or L i blank in
       ap (uncovered c L) (add-one i)
@@ -161,5 +147,21 @@ module _ (c : Counts) (L : List Event) (sound : Sound c L) (i : ℕ) (lt : i < l
       ∙ ap (λ l. can_uncover e && thread_bare c L (i + 1) e.thread l) (sym turned)
       ∙ sym looked
 
+-- the same of a lent table that is stepped
+module _ {start now next : Levels} (L : List Event) (sound : Sound start.counts L) (i : ℕ) (lt : i < length L) (so : LeftWith start now (tabled start.counts (take i L) start.table.now)) (went : LeftWith now next (stepped now.counts now.table.now (get_or L i blank))) where
+  abbrev turn : Event
+  turn = get_or L i blank
+
+  stepped_there : next.table.now ≡ stepped start.counts now.table.now turn
+  stepped_there = went.levels ∙ ap (λ d. stepped d now.table.now turn) so.counts
+
+  pub turned_on : LeftWith start next (tabled start.counts (take (i + 1) L) start.table.now)
+  turned_on = search (rules, turned)
+
+  pub told_on : {r : Bool} → uncovered start.counts L i ≡ false → r ≡ (can_uncover turn && thread_bare next.counts L (i + 1) turn.thread next.table.now) → uncovered start.counts L (i + 1) ≡ r
+  told_on before looked =
+      told start.counts L sound i lt start.table.now now.table.now next.table.now so.levels stepped_there before
+      (looked ∙ ap (λ d. can_uncover turn && thread_bare d L (i + 1) turn.thread next.table.now) (went.counts ∙ so.counts))
+
 pub up_to_next : (c : Counts) (L : List Event) (i : ℕ) → ((j : ℕ) → j ≤ i → uncovered c L j ≡ false) → uncovered c L (i + 1) ≡ false → (j : ℕ) → j ≤ i + 1 → uncovered c L j ≡ false
-up_to_next c L i below here j le = ⊎_elim (λ b. below j (omega arith)) (λ b. let s : j ≡ i + 1 = omega arith in ap (uncovered c L) s ∙ here) (cases_lt j (i + 1))
+up_to_next = search rules

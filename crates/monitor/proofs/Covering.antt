@@ -1,80 +1,28 @@
 -- A held level is covered exactly if it is at most the mark of its variable in its thread's span of the moment.
-use Rattle.std.proofs.Common.{◌≡◌, ℕ, ◌+◌, ◌-◌, ◌<◌, ◌≤◌, Bool, true, false, not, ◌&&◌, eqb, ltb, leb, ◌⊎◌, List, length, get_or, drop, Decides, sym, refl, ap, ◌∙◌, subst, inl, inr, arith, length-drop, length-take}
+use Rattle.std.proofs.Common.{rules, ◌≡◌, ℕ, ◌+◌, ◌-◌, ◌<◌, ◌≤◌, true, ltb, List, length, get_or, drop, Decides, sym, ap, ◌∙◌, subst, arith, length-drop}
 use Rattle.std.proofs.lemmas.List.{get_or-take, get_or-drop}
-use Rattle.std.proofs.lemmas.Bool.{and_parts, and_from, eqb-true, eq-eqb, leb-true, le-leb, lt-ltb, le-ltb, false≢true, both_ways, cases_lt}
-use Rattle.event.specs.declared.letter.Letter.{Letter}
-use Rattle.event.specs.declared.letter.Letter.TheVariants.{Read, Write, Acquire, Release, Fork, Join, Begin, End, Strong, Weak, Downgrade, Stop}
+use Rattle.std.proofs.lemmas.Bool.{and_parts, both_ways}
 use Rattle.event.specs.declared.record.Event.{Event}
-use Rattle.event.specs.Order.{reads, writes as writing}
-use Rattle.event.specs.Thins.{accesses}
-use Rattle.event.proofs.Thinning.{access_true}
 use Rattle.monitor.specs.declared.level.Level.{Level}
-use Rattle.monitor.specs.declared.level.Level.TheVariants.{None as none, Weak as weak, Strong as strong}
+use Rattle.monitor.specs.declared.level.Level.TheVariants.{None as none}
 use Rattle.monitor.specs.Levels.{rank, worth, level_at}
 use Rattle.monitor.specs.Looks.{mark, span, span_from, span_to}
-use Rattle.monitor.specs.Placement.{blank, Suits, strongly, weakly, Fits, CoveredBy, Covered, suits, writes, held, fits, covered_by, covered, exposed}
-use Rattle.monitor.specs.Regions.{InRegion, in_region, opening, closing}
+use Rattle.monitor.specs.Placement.{blank, Fits, CoveredBy, Covered, held, fits, covered_by, covered, exposed}
+use Rattle.monitor.specs.Regions.{InRegion, in_region}
 use Rattle.monitor.proofs.Marking.{own, marked, unmarked, suits_worth, worth_suits, suits_access, own_true, own_parts}
 use Rattle.monitor.proofs.Searching.{any_found, any_from}
 use Rattle.monitor.proofs.Spans.{region_span, span_region, span_to_within}
 
 -- ---- the computed tests tell the truth
 
-writes_true : (e : Event) → writes e.letter ≡ true → e.letter ≡ Write
-writes_true e h = go e.letter refl h
-  where
-    go : (a : Letter) → e.letter ≡ a → writes a ≡ true → e.letter ≡ Write
-    go Read s t = absurd (false≢true t)
-    go Write s t = s
-    go Acquire s t = absurd (false≢true t)
-    go Release s t = absurd (false≢true t)
-    go Fork s t = absurd (false≢true t)
-    go Join s t = absurd (false≢true t)
-    go Begin s t = absurd (false≢true t)
-    go End s t = absurd (false≢true t)
-    go Strong s t = absurd (false≢true t)
-    go Weak s t = absurd (false≢true t)
-    go Downgrade s t = absurd (false≢true t)
-    go Stop s t = absurd (false≢true t)
-
-suits_true : (l : Level) (e : Event) → suits l e.letter ≡ true → Suits l e
-suits_true none e h = absurd (false≢true h)
-suits_true weak e h = weakly refl (access_true e h)
-suits_true strong e h = strongly refl (writes_true e h)
-
-true_suits : {l : Level} {e : Event} → Suits l e → suits l e.letter ≡ true
-true_suits {l} {e} (strongly s w) = ap (λ m. suits m e.letter) s ∙ ap writes w
-true_suits {l} {e} (weakly s (reads r)) = ap (λ m. suits m e.letter) s ∙ ap accesses r
-true_suits {l} {e} (weakly s (writing r)) = ap (λ m. suits m e.letter) s ∙ ap accesses r
-
 pub fits_iff : (e : Event) (t v : ℕ) (l : Level) → Decides (fits e t v l) (Fits e t v l)
-fits_iff e t v l = (
-  λ h.
-      let w = and_parts (eqb e.thread t) (eqb e.number v && suits l e.letter) h in
-      let z = and_parts (eqb e.number v) (suits l e.letter) w.1 in
-      record { thread = eqb-true _ _ w.0; variable = eqb-true _ _ z.0; suits = suits_true l e z.1 },
-  λ f.
-      and_from (eqb e.thread t) (eqb e.number v && suits l e.letter) (eq-eqb _ _ f.thread)
-      (and_from (eqb e.number v) (suits l e.letter) (eq-eqb _ _ f.variable) (true_suits f.suits)),
-)
+fits_iff = search rules
 
 pub in_region_iff : (L : List Event) (t p k : ℕ) → Decides (in_region L t p k) (InRegion L t p k)
-in_region_iff L t p k = (
-  λ h.
-      let w = and_parts (leb (opening L t p) k) (leb k (closing L t p)) h in
-      record { opened = leb-true _ _ w.0; closed = leb-true _ _ w.1 },
-  λ r. and_from (leb (opening L t p) k) (leb k (closing L t p)) (le-leb _ _ r.opened) (le-leb _ _ r.closed),
-)
+in_region_iff = search rules
 
 pub covered_by_iff : (L : List Event) (k t v p : ℕ) → p < length L → Decides (covered_by L k t v p) (CoveredBy L k t v p)
-covered_by_iff L k t v p lt =
-    let l = level_at L k t v in
-    let e = get_or L p blank in (
-      λ h.
-          let w = and_parts (fits e t v l) (in_region L t p k) h in
-          record { within = lt; fits = (fits_iff e t v l).0 w.0; holds = (in_region_iff L t p k).0 w.1 },
-      λ c. and_from (fits e t v l) (in_region L t p k) ((fits_iff e t v l).1 c.fits) ((in_region_iff L t p k).1 c.holds),
-    )
+covered_by_iff = search (rules, and_parts)
 
 pub covered_iff : (L : List Event) (k t v : ℕ) → Decides (covered L k t v) (Covered L k t v)
 covered_iff L k t v = (
@@ -84,36 +32,17 @@ covered_iff L k t v = (
   λ c. any_from (length L) (covered_by L k t v) c.0 c.1.within ((covered_by_iff L k t v c.0 c.1.within).1 c.1),
 )
 
-pub held_rank : (l : Level) → held l ≡ true → 0 < rank l
-held_rank none h = absurd (false≢true h)
-held_rank weak h = omega arith
-held_rank strong h = omega arith
-
-pub rank_held : (l : Level) → 0 < rank l → held l ≡ true
-rank_held none h = absurd (omega arith)
-rank_held weak h = refl
-rank_held strong h = refl
-
-pub held_held : (l : Level) → (l ≡ none → ⊥) → held l ≡ true
-held_held none h = absurd (h refl)
-held_held weak h = refl
-held_held strong h = refl
-
 pub held_not : (l : Level) → held l ≡ true → l ≡ none → ⊥
 held_not l h s = both_ways (held l) (ap held s) h
 
 -- ---- spans
 
 module _ (L : List Event) (k t v : ℕ) (lk : k ≤ length L) where
-  span_at : (j : ℕ) → j < span_to L t k - span_from L t k → get_or (span L t k) j blank ≡ get_or L (span_from L t k + j) blank
+  pub span_at : (j : ℕ) → j < span_to L t k - span_from L t k → get_or (span L t k) j blank ≡ get_or L (span_from L t k + j) blank
   span_at j lt = get_or-take (span_to L t k - span_from L t k) (drop (span_from L t k) L) j blank lt ∙ get_or-drop (span_from L t k) L j blank
 
-  span_length : length (span L t k) ≡ span_to L t k - span_from L t k
-  span_length =
-      let a = length-take (span_to L t k - span_from L t k) (drop (span_from L t k) L) in
-      let b = length-drop (span_from L t k) L in
-      let c = span_to_within L t k lk in
-      omega arith
+  pub span_length : length (span L t k) ≡ span_to L t k - span_from L t k
+  span_length = search (rules, length-drop, span_to_within)
 
   pub covered_marked : Covered L k t v → rank (level_at L k t v) ≤ rank (mark t v (span L t k))
   covered_marked c =
@@ -149,18 +78,4 @@ module _ (L : List Event) (k t v : ℕ) (lk : k ≤ length L) where
 
   -- a held level that is not covered is one above its mark
   pub exposed_marked : exposed L k t v ≡ ltb (rank (mark t v (span L t k))) (rank (level_at L k t v))
-  exposed_marked = go (cases_lt (rank (mark t v (span L t k))) (rank (level_at L k t v)))
-    where
-      bare : rank (mark t v (span L t k)) < rank (level_at L k t v) → (b : Bool) → covered L k t v ≡ b → (held (level_at L k t v) && not b) ≡ true
-      bare lt true h = absurd (let le = covered_marked ((covered_iff L k t v).0 h) in omega arith)
-      bare lt false h = and_from (held (level_at L k t v)) true (rank_held (level_at L k t v) (omega arith)) refl
-
-      safe : rank (level_at L k t v) ≤ rank (mark t v (span L t k)) → (h b : Bool) → held (level_at L k t v) ≡ h → covered L k t v ≡ b → (h && not b) ≡ false
-      safe le true true p q = refl
-      safe le true false p q = absurd (both_ways _ q ((covered_iff L k t v).1 (marked_covered (held_rank (level_at L k t v) p) le)))
-      safe le false true p q = refl
-      safe le false false p q = refl
-
-      go : (rank (mark t v (span L t k)) < rank (level_at L k t v)) ⊎ (rank (level_at L k t v) ≤ rank (mark t v (span L t k))) → exposed L k t v ≡ ltb (rank (mark t v (span L t k))) (rank (level_at L k t v))
-      go (inl lt) = bare lt (covered L k t v) refl ∙ sym (lt-ltb _ _ lt)
-      go (inr le) = safe le (held (level_at L k t v)) (covered L k t v) refl refl ∙ sym (le-ltb _ _ le)
+  exposed_marked = search (rules, covered_iff, covered_marked, marked_covered)

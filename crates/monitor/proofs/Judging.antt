@@ -1,7 +1,7 @@
 -- The lowest uncovered moment is the lowest, and where there is none the placement is right.
-use Rattle.std.proofs.Common.{◌≡◌, ℕ, suc, ◌<◌, ◌≤◌, Bool, true, false, cond, ltb, ◌↔◌, List, [], length, take, Some, None, Ok, Err, Option, Result, sym, refl, ap, ◌∙◌, subst, ap₂, ⊎_elim, arith}
+use Rattle.std.proofs.Common.{rules, ◌≡◌, ℕ, suc, ◌<◌, ◌≤◌, Bool, true, false, ltb, ◌↔◌, List, [], length, take, Some, None, Ok, Err, Option, sym, refl, ap, ◌∙◌, subst, ⊎_elim, arith}
 use Rattle.std.proofs.ByRecursion.{All-take}
-use Rattle.std.proofs.lemmas.Bool.{both_ways, cases_lt, cond_both, ltb-true, ltb-false, le-ltb, lt-ltb, cond-true, cond-false}
+use Rattle.std.proofs.lemmas.Bool.{both_ways, cases_lt, le-ltb, cond-false}
 use Rattle.event.specs.declared.counts.Counts.{Counts}
 use Rattle.event.specs.declared.fault.CallerFault.{CallerFault}
 use Rattle.event.specs.declared.fault.CallerFault.TheVariants.{Table}
@@ -29,11 +29,7 @@ module _ (c : Counts) (L : List Event) (sound : Sound c L) where
       (cases_lt t c.threads)
 
   pub uncovered_found : (k : ℕ) → k ≤ length L → uncovered c L k ≡ true → Uncovered L k
-  uncovered_found k lk h =
-      let a = any_found c.threads (λ t. any_below c.variables (λ v. exposed L k t v)) h in
-      let b = any_found c.variables (λ v. exposed L k a.0 v) a.2 in
-      let p = exposed_parts L k a.0 b.0 b.2 in
-      record { thread = a.0; variable = b.0; within = lk; held = p.0; bare = p.1 }
+  uncovered_found = search (rules, exposed_parts, any_found)
 
   pub covered_all : (k : ℕ) → uncovered c L k ≡ false → (t v : ℕ) → Held L k t v → Covered L k t v
   covered_all k h t v held =
@@ -41,11 +37,7 @@ module _ (c : Counts) (L : List Event) (sound : Sound c L) where
       safe_covered L k t v (none_any c.variables (λ w. exposed L k t w) (none_any c.threads (λ u. any_below c.variables (λ w. exposed L k u w)) h t d.0) v d.1) held
 
   pub uncovered_true : (k : ℕ) → Uncovered L k → uncovered c L k ≡ true
-  uncovered_true k u = go (uncovered c L k) refl
-    where
-      go : (b : Bool) → uncovered c L k ≡ b → b ≡ true
-      go true h = refl
-      go false h = absurd (u.bare (covered_all k h u.thread u.variable u.held))
+  uncovered_true = search (rules, covered_all)
 
   none_uncovered : (k : ℕ) → uncovered c L k ≡ false → Uncovered L k → ⊥
   none_uncovered k h u = both_ways _ h (uncovered_true k u)
@@ -78,38 +70,24 @@ module _ (c : Counts) (L : List Event) (sound : Sound c L) where
   refused_rightly n le (Some k) h = (le, (lowest_some k).0 h)
 
   pub judged : (n : ℕ) → Judged c L n (checked c L n)
-  judged n =
-      cond_both (ltb n (size c)) (Err (Caller (Table (size c)))) (refusing (lowest c L)) (Judged c L n)
-      (λ h. (ltb-true n (size c) h, refl))
-      (λ h. refused_rightly n (ltb-false n (size c) h) (lowest c L) refl)
+  judged = search (rules, refused_rightly)
 
 pub room_fits : (c : Counts) (n : ℕ) → Ok tt ≡ room c n → size c ≤ n
-room_fits c n h = go (ltb n (size c)) refl h
-  where
-    go : (b : Bool) → ltb n (size c) ≡ b → Ok tt ≡ cond {A = Result (Unit {0}) CallerFault} b (Err (Table (size c))) (Ok tt) → size c ≤ n
-    go true p q = absurd (let z : ◌≡◌ {A = ℕ} 0 1 = cc in omega arith)
-    go false p q = ltb-false n (size c) p
+room_fits = search rules
 
 pub room_lacks : (c : Counts) (n : ℕ) (f : CallerFault) → Err f ≡ room c n → (n < size c) × (f ≡ Table (size c))
-room_lacks c n f h = go (ltb n (size c)) refl h
-  where
-    go : (b : Bool) → ltb n (size c) ≡ b → Err f ≡ cond {A = Result (Unit {0}) CallerFault} b (Err (Table (size c))) (Ok tt) → (n < size c) × (f ≡ Table (size c))
-    go true p q = (ltb-true n (size c) p, cc)
-    go false p q = absurd (let z : ◌≡◌ {A = ℕ} 0 1 = cc in omega arith)
+room_lacks = search rules
 
 -- where the table is too small
 module _ (c : Counts) (L : List Event) (xs : List Level) (lacks : length xs < size c) where
   pub checked_lacking : checked c L (length xs) ≡ Err (Caller (Table (size c)))
-  checked_lacking = cond-true (ltb (length xs) (size c)) _ _ (lt-ltb (length xs) (size c) lacks)
+  checked_lacking = search rules
 
   pub left_lacking : left c L xs ≡ xs
-  left_lacking = cond-true (ltb (length xs) (size c)) _ _ (lt-ltb (length xs) (size c) lacks)
+  left_lacking = search rules
 
 -- where the table is large enough
 module _ (c : Counts) (L : List Event) (xs : List Level) (fits : size c ≤ length xs) where
-  pub checked_roomy : checked c L (length xs) ≡ refusing (lowest c L)
-  checked_roomy = cond-false (ltb (length xs) (size c)) _ _ (le-ltb (length xs) (size c) fits)
-
   pub left_roomy : left c L xs ≡ tabled c (reached c L) xs
   left_roomy = cond-false (ltb (length xs) (size c)) _ _ (le-ltb (length xs) (size c) fits)
 
@@ -119,25 +97,11 @@ module _ (c : Counts) (L : List Event) (xs : List Level) (fits : size c ≤ leng
 
 -- What a check that starts from a cleared table answers and leaves, where it took the counts n and the events es of its list.
 module _ (xs : List Level) {n c : Counts} {es L : List Event} {clear : List Level} (counts : n ≡ c) (events : es ≡ L) (clears : clear ≡ cleared n xs) (fits : Ok tt ≡ room n (length xs)) where
-  fits_own : size c ≤ length xs
-  fits_own = room_fits c (length xs) (fits ∙ ap (λ m. room m (length xs)) counts)
-
   pub settled_answer : {o : Option ℕ} → o ≡ lowest n es → refusing o ≡ checked c L (length xs)
-  settled_answer found = ap refusing (found ∙ ap₂ lowest counts events) ∙ sym (checked_roomy c L xs fits_own)
+  settled_answer = search rules
 
   pub settled_levels : {last : List Level} → last ≡ tabled n (reached n es) clear → last ≡ left c L xs
-  settled_levels leaves =
-      leaves
-      ∙ ap₂ (λ m M. tabled m (reached m M) clear) counts events
-      ∙ ap (tabled c (reached c L)) (clears ∙ ap (λ m. cleared m xs) counts)
-      ∙ left_cleared c L xs fits_own
+  settled_levels = search (rules, left_cleared)
 
 pub computed : (c : Counts) (L : List Event) → Sound c L → Computed c L
-computed c L sound = record {
-  fitting = fits_iff;
-  region = in_region_iff L;
-  by_access = λ k t v p lt. covered_by_iff L k t v p lt;
-  moment = covered_iff L;
-  refused = lowest_some c L sound;
-  accepted = lowest_no c L sound;
-}
+computed = search (rules, fits_iff, in_region_iff, covered_by_iff, covered_iff, lowest_some, lowest_no)

@@ -1,11 +1,9 @@
 -- Levels after one event more, and which levels an event leaves alone.
-use Rattle.std.proofs.Common.{◌≡◌, ℕ, suc, ◌<◌, Bool, true, false, cond, ◌&&◌, eqb, List, [], ◌∷◌, ◌++◌, length, get_or, take, sym, refl, ap, ◌∙◌, subst, ⊎_elim, add-one}
+use Rattle.std.proofs.Common.{rules, ◌≡◌, ℕ, suc, ◌<◌, true, false, cond, ◌&&◌, eqb, List, [], ◌∷◌, ◌++◌, length, get_or, take, sym, refl, ap, ◌∙◌, add-one}
 use Rattle.std.specs.List.{AllByRecursion}
 use Rattle.std.proofs.lemmas.List.{take_more}
-use Rattle.std.proofs.lemmas.Bool.{false≢true, and_parts, eqb-true, cases_Bool}
 use Rattle.event.specs.declared.counts.Counts.{Counts}
 use Rattle.event.specs.declared.letter.Letter.{Letter}
-use Rattle.event.specs.declared.letter.Letter.TheVariants.{Read, Write, Acquire, Release, Fork, Join, Begin, End, Strong, Weak, Downgrade, Stop}
 use Rattle.event.specs.declared.record.Event.{Event}
 use Rattle.event.specs.Ranges.{limit}
 use Rattle.event.specs.Thins.{Placed}
@@ -28,27 +26,8 @@ take_next L k lt = ap (λ n. take n L) (sym (add-one k)) ∙ take_more L k blank
 pub level_next : (L : List Event) (k : ℕ) → k < length L → (t v : ℕ) → level_at L (suc k) t v ≡ after_event t v (level_at L k t v) (get_or L k blank)
 level_next L k lt t v = ap (λ M. level M t v) (take_next L k lt) ∙ level_push (take k L) (get_or L k blank) t v
 
--- an event that sets no level leaves all levels
-pub after_other : (a : Letter) (l : Level) → monitors a ≡ false → after a l ≡ l
-after_other Read l h = refl
-after_other Write l h = refl
-after_other Acquire l h = refl
-after_other Release l h = refl
-after_other Fork l h = refl
-after_other Join l h = refl
-after_other Begin l h = refl
-after_other End l h = refl
-after_other Strong l h = absurd (false≢true (sym h))
-after_other Weak l h = absurd (false≢true (sym h))
-after_other Downgrade l h = absurd (false≢true (sym h))
-after_other Stop l h = absurd (false≢true (sym h))
-
-same_if_same : (b : Bool) (l m : Level) → m ≡ l → cond b m l ≡ l
-same_if_same true l m h = h
-same_if_same false l m h = refl
-
 pub keeps_other : (e : Event) (t v : ℕ) (l : Level) → monitors e.letter ≡ false → after_event t v l e ≡ l
-keeps_other e t v l h = same_if_same (eqb e.thread t && eqb e.number v) l (after e.letter l) (after_other e.letter l h)
+keeps_other = search rules
 
 -- and an event leaves the levels of other threads
 pub keeps_thread : (e : Event) (t v : ℕ) (l : Level) → eqb e.thread t ≡ false → after_event t v l e ≡ l
@@ -56,32 +35,11 @@ keeps_thread e t v l h = λ i. cond (h i && eqb e.number v) (after e.letter l) l
 
 -- a level is set of a variable
 pub monitors_limit : (c : Counts) (a : Letter) → monitors a ≡ true → limit c a ≡ c.variables
-monitors_limit c Read h = absurd (false≢true h)
-monitors_limit c Write h = absurd (false≢true h)
-monitors_limit c Acquire h = absurd (false≢true h)
-monitors_limit c Release h = absurd (false≢true h)
-monitors_limit c Fork h = absurd (false≢true h)
-monitors_limit c Join h = absurd (false≢true h)
-monitors_limit c Begin h = absurd (false≢true h)
-monitors_limit c End h = absurd (false≢true h)
-monitors_limit c Strong h = refl
-monitors_limit c Weak h = refl
-monitors_limit c Downgrade h = refl
-monitors_limit c Stop h = refl
+monitors_limit = search rules
 
 -- a level of a thread or a variable that is not declared is never set
 never_set : (c : Counts) (e : Event) (t v : ℕ) → Placed c e → (t < c.threads → v < c.variables → ⊥) → after_event t v none e ≡ none
-never_set c e t v placed out = ⊎_elim sets (keeps_other e t v none) (cases_Bool (monitors e.letter))
-  where
-    go : (b : Bool) → (eqb e.thread t && eqb e.number v) ≡ b → monitors e.letter ≡ true → cond b (after e.letter none) none ≡ none
-    go true h m =
-        let w = and_parts (eqb e.thread t) (eqb e.number v) h in
-        let lv : e.number < c.variables = subst (λ n. e.number < n) (monitors_limit c e.letter m) placed.number in
-        absurd (out (subst (λ n. n < c.threads) (eqb-true _ _ w.0) placed.thread) (subst (λ n. n < c.variables) (eqb-true _ _ w.1) lv))
-    go false h m = refl
-
-    sets : monitors e.letter ≡ true → after_event t v none e ≡ none
-    sets m = go (eqb e.thread t && eqb e.number v) refl m
+never_set = search rules
 
 pub level_outside : (c : Counts) (L : List Event) (t v : ℕ) → AllByRecursion (Placed c) L → (t < c.threads → v < c.variables → ⊥) → level L t v ≡ none
 level_outside c [] t v placed out = refl

@@ -1,39 +1,24 @@
 -- The computed list of overlaps has every overlap once, and nothing else, in order.
-use Rattle.std.proofs.Common.{◌≡◌, ℕ, zero, suc, ◌+◌, ◌*◌, ◌<◌, ◌≤◌, Bool, true, false, cond, not, ◌&&◌, eqb, List, [], ◌∷◌, ◌++◌, map, length, Some, None, Option, sym, refl, ap, ◌∙◌, subst, ap₂, ⊎_elim, suc-mul, arith}
+use Rattle.std.proofs.Common.{rules, ◌≡◌, ℕ, zero, suc, ◌+◌, ◌*◌, ◌<◌, ◌≤◌, Bool, true, false, cond, not, ◌&&◌, eqb, List, [], ◌∷◌, ◌++◌, map, length, Some, None, Option, sym, refl, ap, ◌∙◌, subst, ap₂, ⊎_elim, suc-mul, arith}
 use mathlib.Core.List.{Memᴰ}
 use Rattle.std.specs.List.{AllByRecursion}
 use Rattle.std.proofs.lemmas.List.{append-nil, append_assoc, length-append, map-append}
 use Rattle.std.proofs.ByRecursion.{All-append}
-use Rattle.std.proofs.lemmas.Bool.{false≢true, and_from, and_parts, not-true, not_from_false, ltb-true, lt-ltb, eqb-false, ne_eqb, cases_eq, cond-true}
+use Rattle.std.proofs.lemmas.Bool.{and_from, and_parts, not-true, not_from_false, ltb-true, lt-ltb, eqb-false, ne_eqb, cases_eq, cond-true}
 use Rattle.event.specs.declared.counts.Counts.{Counts}
 use Rattle.event.specs.declared.record.Event.{Event}
 use Rattle.monitor.specs.declared.level.Level.{Level}
-use Rattle.monitor.specs.declared.level.Level.TheVariants.{None as none, Weak as weak, Strong as strong}
-use Rattle.monitor.specs.Overlaps.{event_at, just_after, Rises, Meet, first_strong, second_strong, by_place, Overlap, Overlaps, Sooner, by_rise, by_other, InOrder, rises, is_strong, meets, lowest_fitting, on_both, met, overlap_with, gathered, overlaps_at, overlaps}
+use Rattle.monitor.specs.Overlaps.{event_at, just_after, Rises, Meet, by_place, Overlap, Overlaps, Sooner, by_other, InOrder, rises, meets, lowest_fitting, on_both, met, overlap_with, gathered, overlaps_at, overlaps}
 use Rattle.monitor.specs.Theorems.{ListedOverlaps}
-use Rattle.monitor.proofs.Covering.{held_held, held_not}
 use Rattle.monitor.proofs.Overlapping.{lowest_is, lowest_once}
 
 -- ---- the computed tests tell the truth
 
-strong_true : (m : Level) → is_strong m ≡ true → m ≡ strong
-strong_true none h = absurd (false≢true h)
-strong_true weak h = absurd (false≢true h)
-strong_true strong h = refl
-
 meets_true : (l m : Level) → meets l m ≡ true → Meet l m
-meets_true none m h = absurd (false≢true h)
-meets_true weak m h = second_strong (held_not weak refl) (strong_true m h)
-meets_true strong m h = first_strong refl (held_not m h)
-
-meets_strong : (l : Level) → (l ≡ none → ⊥) → meets l strong ≡ true
-meets_strong none h = absurd (h refl)
-meets_strong weak h = refl
-meets_strong strong h = refl
+meets_true = search rules
 
 true_meets : {l m : Level} → Meet l m → meets l m ≡ true
-true_meets {l} {m} (first_strong s h) = ap (λ x. meets x m) s ∙ held_held m h
-true_meets {l} {m} (second_strong h s) = ap (meets l) s ∙ meets_strong l h
+true_meets = search rules
 
 -- ---- lists that are gathered
 
@@ -194,10 +179,7 @@ module _ (c : Counts) (L : List Event) where
       })
 
   listed_is : {o : Overlap} → Memᴰ o (overlaps c L) → Overlaps c L o
-  listed_is {o} m =
-      let a = in_gathered (overlaps_at c L) 0 (length L) m in
-      let b = in_gathered (overlap_with L a.0) 0 c.threads a.3 in
-      listed_with a.0 b.0 (omega (arith, a.2)) (omega (arith, b.2)) b.3
+  listed_is = search (rules, in_gathered, listed_with)
 
   is_listed : {o : Overlap} → Overlaps c L o → Memᴰ o (overlaps c L)
   is_listed {o} h =
@@ -223,10 +205,7 @@ module _ (c : Counts) (L : List Event) where
       0 c.threads
 
   pub overlaps_listed : ListedOverlaps c L
-  overlaps_listed = record {
-    exact = λ o. (listed_is, is_listed);
-    ordered = gathered_order (overlaps_at c L) at_in_order (λ j k x y lt m n. by_rise (omega (arith, at_keys j m, at_keys k n))) 0 (length L);
-  }
+  overlaps_listed = search (rules, gathered_order, listed_is, is_listed, at_keys, at_in_order)
 
   -- at most one for each event and each thread
   pub overlaps_few : c.threads ≤ 16 → length (overlaps c L) ≤ length L * 16

@@ -1,26 +1,21 @@
 -- A mark is the highest level that an access among some events fits.
-use Rattle.std.proofs.Common.{◌≡◌, ℕ, zero, suc, ◌<◌, ◌≤◌, Bool, true, cond, ◌&&◌, eqb, ltb, ◌⊎◌, List, [], ◌∷◌, ◌++◌, length, get_or, replicate, sym, refl, ap, ◌∙◌, subst, inl, inr, ⊎_elim, arith, length-set}
+use Rattle.std.proofs.Common.{rules, ◌≡◌, ℕ, zero, suc, ◌<◌, ◌≤◌, Bool, true, cond, ◌&&◌, eqb, ◌⊎◌, List, [], ◌∷◌, ◌++◌, length, get_or, replicate, sym, refl, ap, ◌∙◌, subst, inl, inr, ⊎_elim, arith, length-set}
 use Rattle.std.proofs.lemmas.List.FromFn.{length-map-range_with_len, get_or-map-range_with_len, fill_by_all}
 use Rattle.std.proofs.lemmas.List.{get_or-set_same, get_or-set_other}
-use Rattle.std.proofs.lemmas.Bool.{cond_both, cond-true, cond-false, and_left, and_right, ne_eqb, cases_eq, and_parts, and_from, eqb-true, eq-eqb, ltb-true, ltb-false}
-use Rattle.event.specs.declared.letter.Letter.{Letter}
-use Rattle.event.specs.declared.letter.Letter.TheVariants.{Read, Write, Acquire, Release, Fork, Join, Begin, End, Strong, Weak, Downgrade, Stop}
+use Rattle.std.proofs.lemmas.Bool.{cond_both, cond-true, cond-false, and_left, and_right, ne_eqb, cases_eq}
 use Rattle.event.specs.declared.record.Event.{Event}
-use Rattle.event.specs.Order.{Access, reads, writes}
+use Rattle.event.specs.Order.{Access}
 use Rattle.monitor.specs.declared.level.Level.{Level}
-use Rattle.monitor.specs.declared.level.Level.TheVariants.{None as none, Weak as weak, Strong as strong}
+use Rattle.monitor.specs.declared.level.Level.TheVariants.{None as none}
 use Rattle.monitor.specs.Levels.{rank, higher, worth}
 use Rattle.monitor.specs.Looks.{mark_from, mark, marks_of, raised}
-use Rattle.monitor.specs.Placement.{blank, Suits, strongly, weakly}
+use Rattle.monitor.specs.Placement.{blank, Suits}
 
 higher_left : (l m : Level) → rank l ≤ rank (higher l m)
-higher_left l m = cond_both (ltb (rank l) (rank m)) m l (λ x. rank l ≤ rank x) (λ e. let lt = ltb-true (rank l) (rank m) e in omega arith) (λ _. omega arith)
+higher_left = search rules
 
 higher_right : (l m : Level) → rank m ≤ rank (higher l m)
-higher_right l m = cond_both (ltb (rank l) (rank m)) m l (λ x. rank m ≤ rank x) (λ _. omega arith) (λ e. ltb-false (rank l) (rank m) e)
-
-higher_most : (l m : Level) (n : ℕ) → n ≤ rank (higher l m) → (n ≤ rank l) ⊎ (n ≤ rank m)
-higher_most l m n = cond_both (ltb (rank l) (rank m)) m l (λ x. n ≤ rank x → (n ≤ rank l) ⊎ (n ≤ rank m)) (λ _ h. inr h) (λ _ h. inl h)
+higher_right = search rules
 
 module _ (t v : ℕ) where
   -- the event is of the thread t, and names v
@@ -59,10 +54,7 @@ module _ (t v : ℕ) where
   worth_behind x M n w = record { at = suc w.at; within = omega (arith, w.within); owned = w.owned; worthy = w.worthy }
 
   first_or : (l : Level) (x : Event) (M : List Event) (n : ℕ) → (n ≤ rank (cond (own x) (higher l (worth x.letter)) l)) → (n ≤ rank l) ⊎ Worth (x ∷ M) n
-  first_or l x M n =
-      cond_both (own x) (higher l (worth x.letter)) l (λ m. n ≤ rank m → (n ≤ rank l) ⊎ Worth (x ∷ M) n)
-      (λ e h. ⊎_elim inl (λ w. inr (record { at = 0; within = omega arith; owned = e; worthy = w })) (higher_most l (worth x.letter) n h))
-      (λ _ h. inl h)
+  first_or = search rules
 
   mark_found : (l : Level) (M : List Event) (n : ℕ) → n ≤ rank (mark_from l t v M) → (n ≤ rank l) ⊎ Worth M n
   mark_found l [] n h = inl h
@@ -76,49 +68,19 @@ module _ (t v : ℕ) where
 
 -- what a letter is worth tells which levels it fits
 pub suits_worth : (l : Level) (e : Event) → Suits l e → rank l ≤ rank (worth e.letter)
-suits_worth l e (strongly s w) = omega (arith, ap rank s, ap (λ (a : Letter). rank (worth a)) w)
-suits_worth l e (weakly s (reads r)) = omega (arith, ap rank s, ap (λ (a : Letter). rank (worth a)) r)
-suits_worth l e (weakly s (writes r)) = omega (arith, ap rank s, ap (λ (a : Letter). rank (worth a)) r)
+suits_worth = search rules
 
 pub worth_suits : (l : Level) (e : Event) → 0 < rank l → rank l ≤ rank (worth e.letter) → Suits l e
-worth_suits l e low h = go l refl e.letter refl low h
-  where
-    go : (m : Level) → l ≡ m → (a : Letter) → e.letter ≡ a → 0 < rank m → rank m ≤ rank (worth a) → Suits l e
-    go none s a q z k = absurd (omega arith)
-    go weak s Read q z k = weakly s (reads q)
-    go weak s Write q z k = weakly s (writes q)
-    go weak s Acquire q z k = absurd (omega arith)
-    go weak s Release q z k = absurd (omega arith)
-    go weak s Fork q z k = absurd (omega arith)
-    go weak s Join q z k = absurd (omega arith)
-    go weak s Begin q z k = absurd (omega arith)
-    go weak s End q z k = absurd (omega arith)
-    go weak s Strong q z k = absurd (omega arith)
-    go weak s Weak q z k = absurd (omega arith)
-    go weak s Downgrade q z k = absurd (omega arith)
-    go weak s Stop q z k = absurd (omega arith)
-    go strong s Read q z k = absurd (omega arith)
-    go strong s Write q z k = strongly s q
-    go strong s Acquire q z k = absurd (omega arith)
-    go strong s Release q z k = absurd (omega arith)
-    go strong s Fork q z k = absurd (omega arith)
-    go strong s Join q z k = absurd (omega arith)
-    go strong s Begin q z k = absurd (omega arith)
-    go strong s End q z k = absurd (omega arith)
-    go strong s Strong q z k = absurd (omega arith)
-    go strong s Weak q z k = absurd (omega arith)
-    go strong s Downgrade q z k = absurd (omega arith)
-    go strong s Stop q z k = absurd (omega arith)
+worth_suits = search rules
 
 pub suits_access : {l : Level} {e : Event} → Suits l e → Access e
-suits_access (strongly s w) = writes w
-suits_access (weakly s a) = a
+suits_access = search rules
 
 pub own_true : (t v : ℕ) (e : Event) → e.thread ≡ t → e.number ≡ v → own t v e ≡ true
-own_true t v e p q = and_from (eqb e.thread t) (eqb e.number v) (eq-eqb e.thread t p) (eq-eqb e.number v q)
+own_true = search rules
 
 pub own_parts : (t v : ℕ) (e : Event) → own t v e ≡ true → (e.thread ≡ t) × (e.number ≡ v)
-own_parts t v e h = let w = and_parts (eqb e.thread t) (eqb e.number v) h in (eqb-true e.thread t w.0, eqb-true e.number v w.1)
+own_parts = search rules
 
 -- ---- the marks of all variables
 

@@ -1,8 +1,7 @@
 -- Overlaps are races: the regions of the two accesses share the moment just after the rise.
-use Rattle.std.proofs.Common.{◌≡◌, ℕ, suc, ◌<◌, ◌≤◌, true, ltb, List, length, Some, None, Option, sym, refl, ap, ◌∙◌, subst, ⊎_elim, arith}
+use Rattle.std.proofs.Common.{rules, ◌≡◌, ℕ, suc, ◌<◌, ◌≤◌, ltb, List, length, Some, None, Option, sym, refl, ap, ◌∙◌, subst, ⊎_elim, arith}
 use Rattle.std.proofs.lemmas.Bool.{both_ways, cond_both, ltb-true, ltb-false, cases_order}
 use Rattle.event.specs.declared.counts.Counts.{Counts}
-use Rattle.event.specs.declared.letter.Letter.TheVariants.{Read}
 use Rattle.event.specs.declared.record.Event.{Event}
 use Rattle.event.specs.Order.{Conflict, Race}
 use Rattle.event.specs.Thins.{Rising}
@@ -11,34 +10,18 @@ use Rattle.order.specs.Runs.{Two}
 use Rattle.order.proofs.Moments.{shared_moment}
 use Rattle.order.proofs.Places.{at_in, rising_at}
 use Rattle.monitor.specs.declared.level.Level.{Level}
-use Rattle.monitor.specs.declared.level.Level.TheVariants.{None as none, Strong as strong}
-use Rattle.monitor.specs.Levels.{rank, level_at}
-use Rattle.monitor.specs.Overlaps.{event_at, just_after, Rises, Meet, first_strong, second_strong, LowestFitting, by_place, Overlap, Overlaps, lowest_fitting}
-use Rattle.monitor.specs.Placement.{blank, Suits, strongly, weakly, CoveredBy, Covered, WellPlaced, writes, covered_by}
+use Rattle.monitor.specs.declared.level.Level.TheVariants.{None as none}
+use Rattle.monitor.specs.Levels.{level_at}
+use Rattle.monitor.specs.Overlaps.{event_at, just_after, Rises, Meet, LowestFitting, by_place, Overlap, Overlaps, lowest_fitting}
+use Rattle.monitor.specs.Placement.{blank, CoveredBy, Covered, WellPlaced, covered_by}
 use Rattle.monitor.proofs.Agreeing.{regions_agree_lem}
 use Rattle.monitor.proofs.Covering.{covered_by_iff}
-use Rattle.monitor.proofs.Marking.{suits_access}
 use Rattle.monitor.proofs.Searching.{IsLeast, least_is}
-
--- what fits a strong level is no read
-no_read : {l : Level} {e : Event} → l ≡ strong → Suits l e → e.letter ≡ Read → ⊥
-no_read s (strongly p w) r = both_ways true (ap writes (sym w ∙ r)) refl
-no_read {l} s (weakly p a) r = let z = sym (ap rank p) ∙ ap rank s in omega (arith, z)
 
 -- the two sides of an overlap
 module _ (L : List Event) (up : Rising L) (k t u v p q : ℕ) (lk : k ≤ length L) (apart : t ≡ u → ⊥) (meet : Meet (level_at L k t v) (level_at L k u v)) (a : CoveredBy L k t v p) (b : CoveredBy L k u v q) where
   conflict : Conflict (event_at L p) (event_at L q)
-  conflict = record {
-    first = suits_access a.fits.suits;
-    second = suits_access b.fits.suits;
-    variable = a.fits.variable ∙ sym b.fits.variable;
-    apart = λ s. apart (sym a.fits.thread ∙ s ∙ b.fits.thread);
-    written = not_both meet;
-  }
-    where
-      not_both : Meet (level_at L k t v) (level_at L k u v) → (event_at L p).letter ≡ Read → (event_at L q).letter ≡ Read → ⊥
-      not_both (first_strong s h) x y = no_read s a.fits.suits x
-      not_both (second_strong h s) x y = no_read s b.fits.suits y
+  conflict = search rules
 
   region_own : Region L (event_at L p) k
   region_own = (regions_agree_lem L up p k a.within lk).0 (rw a.fits.thread a.holds)
@@ -51,15 +34,10 @@ module _ (L : List Event) (up : Rising L) (k t u v p q : ℕ) (lk : k ≤ length
 
   -- accesses of different threads have different places
   pub places_differ : (event_at L p).place ≡ (event_at L q).place → ⊥
-  places_differ s =
-      ⊎_elim
-      (λ e. apart (sym a.fits.thread ∙ ap (λ n. (event_at L n).thread) e ∙ b.fits.thread))
-      (λ o. ⊎_elim (λ lt. let h = rising_at L up p q blank lt b.within in omega arith) (λ lt. let h = rising_at L up q p blank lt a.within in omega arith) o)
-      (cases_order p q)
+  places_differ = search (rules, rising_at)
 
 meet_swap : {l m : Level} → Meet l m → Meet m l
-meet_swap (first_strong s h) = second_strong h s
-meet_swap (second_strong h s) = first_strong s h
+meet_swap = search rules
 
 pub overlap_race : (c : Counts) (L : List Event) → Rising L → (o : Overlap) → Overlaps c L o → Race L o.two.0 o.two.1
 overlap_race c L up o h = subst (λ (w : Two). Race L w.0 w.1) (sym h.pair) either
@@ -84,13 +62,7 @@ overlap_race c L up o h = subst (λ (w : Two). Race L w.0 w.1) (sym h.pair) eith
 -- ---- the lowest fitting access
 
 pub lowest_is : (L : List Event) (k t v p : ℕ) → lowest_fitting L k t v ≡ Some p → LowestFitting L k t v p
-lowest_is L k t v p h =
-    let r = subst (IsLeast 0 (length L) (covered_by L k t v)) h (least_is 0 (length L) (covered_by L k t v)) in
-    let lp : p < length L = omega (arith, r.1) in
-    record {
-      covers = (covered_by_iff L k t v p lp).0 r.2;
-      lowest = λ q lt c. both_ways _ (r.3 q (omega arith) lt) ((covered_by_iff L k t v q (omega arith)).1 c);
-    }
+lowest_is = search (rules, covered_by_iff, least_is)
 
 pub lowest_exists : (L : List Event) (k t v : ℕ) → Covered L k t v → (p : ℕ) × (lowest_fitting L k t v ≡ Some p)
 lowest_exists L k t v c = go (lowest_fitting L k t v) refl
@@ -108,8 +80,7 @@ lowest_once L k t v p h =
     e.1 ∙ ap Some (⊎_elim (λ s. s) (λ o. absurd (⊎_elim (λ lt. h.lowest e.0 lt g.covers) (λ lt. g.lowest p lt h.covers) o)) (cases_order e.0 p))
 
 meet_held : {l m : Level} → Meet l m → (l ≡ none → ⊥) × (m ≡ none → ⊥)
-meet_held {l} {m} (first_strong s h) = (λ z. let y = ap rank (sym s ∙ z) in omega arith, h)
-meet_held {l} {m} (second_strong h s) = (h, λ z. let y = ap rank (sym s ∙ z) in omega arith)
+meet_held = search rules
 
 pub meeting_overlaps : (c : Counts) (L : List Event) → WellPlaced L → (i u : ℕ) → Rises L i → u < c.threads → (u ≡ (event_at L i).thread → ⊥) →
     Meet (just_after L i (event_at L i).thread) (just_after L i u) → (w : Two) × Overlaps c L (record { rise = i; other = u; two = w })

@@ -1,31 +1,26 @@
 -- Tables that have the levels before and after an event find its overlaps.
-use Rattle.std.proofs.Common.{◌≡◌, ℕ, suc, ◌<◌, Bool, true, false, cond, not, ◌&&◌, eqb, ltb, List, [], length, get_or, take, Some, None, Option, sym, refl, ap, ◌∙◌, subst, ap₂, ⊎_elim, arith}
+use Rattle.std.proofs.Common.{rules, ◌≡◌, ℕ, suc, ◌<◌, Bool, true, false, cond, not, ◌&&◌, eqb, ltb, List, [], length, take, None, Option, sym, ◌∙◌, subst, ap₂, ⊎_elim}
 use Rattle.std.specs.Option.{option_map}
 use Rattle.std.proofs.ByRecursion.{All-get_or}
-use Rattle.std.proofs.lemmas.Bool.{cases_Bool, le-ltb, lt-ltb, cond-true}
+use Rattle.std.proofs.lemmas.Bool.{cases_Bool, lt-ltb, cond-true}
 use Rattle.event.specs.declared.counts.Counts.{Counts}
 use Rattle.event.specs.declared.record.Event.{Event}
 use Rattle.event.specs.Thins.{Placed, Sound}
 use Rattle.monitor.specs.declared.level.Level.{Level}
-use Rattle.monitor.specs.declared.level.Level.TheVariants.{None as none}
-use Rattle.monitor.specs.Levels.{rank, level_at}
+use Rattle.monitor.specs.Levels.{rank}
 use Rattle.monitor.specs.Looks.{monitors}
-use Rattle.monitor.specs.Overlaps.{event_at, before, just_after, rises, meets, lowest_fitting, on_both, overlap_with, raises, paired, meeting_on, named, as_overlap}
+use Rattle.monitor.specs.Overlaps.{event_at, just_after, rises, meets, lowest_fitting, on_both, overlap_with, raises, paired, meeting_on, named, as_overlap}
 use Rattle.monitor.specs.Placement.{blank}
-use Rattle.monitor.specs.Tables.{slot, tabled}
+use Rattle.monitor.specs.Tables.{tabled}
 use Rattle.monitor.proofs.Leveling.{monitors_limit, level_next, keeps_other, take_next}
 use Rattle.monitor.proofs.Tabling.{tabled_at, tabled_calm}
 
 module _ (L : List Event) (i u : ℕ) where
   both : (a b : Option ℕ) → on_both L i u a b ≡ as_overlap i u (paired (option_map (event_at L) a) (option_map (event_at L) b))
-  both None b = refl
-  both (Some p) None = refl
-  both (Some p) (Some q) = refl
+  both = search rules
 
   shape : (r m : Bool) (a b : Option ℕ) → cond (r && m) (on_both L i u a b) [] ≡ cond r (as_overlap i u (cond m (paired (option_map (event_at L) a) (option_map (event_at L) b)) None)) []
-  shape true true a b = both a b
-  shape true false a b = refl
-  shape false m a b = refl
+  shape = search rules
 
 module _ (c : Counts) (L : List Event) (sound : Sound c L) (xs : List Level) (i u : ℕ) (li : i < length L) (lu : u < c.threads) where
   abbrev e : Event
@@ -42,13 +37,7 @@ module _ (c : Counts) (L : List Event) (sound : Sound c L) (xs : List Level) (i 
 
   -- an event that sets no level is no rise
   calm : monitors e.letter ≡ false → overlap_with L i u ≡ cond (raises c e old new) (as_overlap i u (named c L i u new)) []
-  calm h =
-      let same_level = level_next L i li e.thread e.number ∙ keeps_other e e.thread e.number (level_at L i e.thread e.number) h in
-      let same_table : new ≡ old = ap (λ M. tabled c M xs) (take_next L i li) ∙ sym (tabled_calm c (take i L) e placed h xs) in
-      let flat : rises L i ≡ false = ap (λ l. ltb (rank (before L i e.thread)) (rank l)) same_level ∙ le-ltb (rank (before L i e.thread)) (rank (before L i e.thread)) (omega arith) in
-      let level : raises c e old new ≡ false = ap (raises c e old) same_table ∙ le-ltb (rank (get_or old (slot c e.thread e.number) none)) (rank (get_or old (slot c e.thread e.number) none)) (omega arith) in
-      (λ j. cond (flat j && (not (eqb u e.thread) && meets (just_after L i e.thread) (just_after L i u))) (on_both L i u (lowest_fitting L (suc i) e.thread e.number) (lowest_fitting L (suc i) u e.number)) [])
-      ∙ sym (λ j. cond (level j) (as_overlap i u (named c L i u new)) [])
+  calm = search (rules, level_next, keeps_other, take_next, tabled_calm, placed)
 
   -- else its variable is declared, and the tables have the levels
   sets : monitors e.letter ≡ true → overlap_with L i u ≡ cond (raises c e old new) (as_overlap i u (named c L i u new)) []

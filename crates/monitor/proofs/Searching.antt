@@ -1,6 +1,10 @@
 -- Numbers below a limit that pass a test, and the least of them.
-use Rattle.std.proofs.Common.{◌≡◌, ℕ, zero, suc, ◌+◌, ◌<◌, ◌≤◌, Bool, true, false, cond, ◌||◌, Some, None, Option, sym, refl, ap, ◌∙◌, ⊎_elim, arith}
+use Rattle.std.proofs.Common.{rules, ◌≡◌, ℕ, zero, suc, ◌+◌, ◌<◌, ◌≤◌, Bool, true, false, cond, ◌||◌, get_or, Some, None, Option, refl, ap, ◌∙◌, ⊎_elim, arith}
+use Rattle.std.proofs.lemmas.List.Elements.{All-from_get_or}
+use Rattle.std.proofs.lemmas.List.Folds.{list_any_at, list_any_none}
+use Rattle.std.proofs.lemmas.List.FromFn.{length-range_with_len, get_or-range_with_len}
 use Rattle.std.proofs.lemmas.Bool.{false≢true, both_ways, or_cases, or_left, or_right, cases_eq, cond_both}
+use Rattle.std.specs.List.{list_any, range_with_len}
 use Rattle.monitor.specs.Placement.{any_below, least_from}
 
 pub any_found : (n : ℕ) (test : ℕ → Bool) → any_below n test ≡ true → (i : ℕ) × (i < n) × (test i ≡ true)
@@ -35,6 +39,21 @@ pub any_same : (n : ℕ) (f g : ℕ → Bool) → ((i : ℕ) → i < n → f i �
 any_same zero f g h = refl
 any_same (suc n) f g h = λ j. h n (omega arith) j || any_same n f g (λ i lt. h i (omega arith)) j
 
+-- the numbers below the limit as a list
+pub list_any_below : (n : ℕ) (test : ℕ → Bool) → list_any test (range_with_len 0 n) ≡ any_below n test
+list_any_below n test = go (any_below n test) refl
+  where
+    at : (i : ℕ) → i < n → get_or (range_with_len 0 n) i 0 ≡ i
+    at i lt = get_or-range_with_len 0 n i 0 lt ∙ omega arith
+
+    go : (b : Bool) → any_below n test ≡ b → list_any test (range_with_len 0 n) ≡ b
+    go true h =
+        let w = any_found n test h in
+        list_any_at test (range_with_len 0 n) w.0 0 (omega (arith, length-range_with_len 0 n, w.1)) (ap test (at w.0 w.1) ∙ w.2)
+    go false h =
+        list_any_none test (range_with_len 0 n)
+        (All-from_get_or (λ x. test x ≡ false) (range_with_len 0 n) 0 (λ i lt. let li : i < n = omega (arith, length-range_with_len 0 n) in ap test (at i li) ∙ none_any n test h i li))
+
 pub least_none : (i n : ℕ) (test : ℕ → Bool) → ((j : ℕ) → i ≤ j → j < i + n → test j ≡ false) → least_from i n test ≡ None
 least_none i zero test h = refl
 least_none i (suc n) test h =
@@ -56,13 +75,7 @@ IsLeast i n test None = (j : ℕ) → i ≤ j → j < i + n → test j ≡ false
 IsLeast i n test (Some k) = (i ≤ k) × (k < i + n) × (test k ≡ true) × ((j : ℕ) → i ≤ j → j < k → test j ≡ false)
 
 later : (i n : ℕ) (test : ℕ → Bool) → test i ≡ false → (o : Option ℕ) → IsLeast (suc i) n test o → IsLeast i (suc n) test o
-later i n test h None r = λ j le lt. ⊎_elim (λ s. ap test (sym s) ∙ h) (λ ne. r j (omega arith) (omega arith)) (cases_eq i j)
-later i n test h (Some k) r = (
-  omega (arith, r.0),
-  omega (arith, r.1),
-  r.2,
-  λ j le lt. ⊎_elim (λ s. ap test (sym s) ∙ h) (λ ne. r.3 j (omega arith) lt) (cases_eq i j),
-)
+later = search rules
 
 pub least_is : (i n : ℕ) (test : ℕ → Bool) → IsLeast i n test (least_from i n test)
 least_is i zero test = λ j le lt. absurd (omega arith)

@@ -1,27 +1,22 @@
 -- An access has a moment in its region exactly if no release of its thread stands between the access and the moment, and no acquire of it
 -- between the moment and the access: exactly if the access is in the thread's span of that moment.
-use Rattle.std.proofs.Common.{◌≡◌, ℕ, suc, ◌+◌, ◌-◌, ◌<◌, ◌≤◌, Bool, true, false, cond, eqb, List, length, get_or, take, drop, sym, ap, ◌∙◌, subst, ⊎_elim, arith, length-drop, length-take, drop-cons}
+use Rattle.std.proofs.Common.{rules, ◌≡◌, ℕ, suc, ◌+◌, ◌-◌, ◌<◌, ◌≤◌, Bool, true, false, List, length, get_or, take, drop, sym, ap, ◌∙◌, subst, ⊎_elim, arith, length-drop, length-take, drop-cons}
 use Rattle.std.proofs.lemmas.List.{get_or-take, get_or-drop}
-use Rattle.std.proofs.lemmas.Bool.{false≢true, and_parts, cases_order, cases_lt, cond-false}
-use Rattle.event.specs.declared.letter.Letter.{Letter}
+use Rattle.std.proofs.lemmas.Bool.{cases_order, cases_lt}
 use Rattle.event.specs.declared.record.Event.{Event}
-use Rattle.event.specs.Objects.{released, acquired, released_by, acquired_by}
-use Rattle.event.specs.Order.{Access, reads, writes}
-use Rattle.order.specs.Regions.{any_object}
+use Rattle.event.specs.Order.{Access}
 use Rattle.monitor.specs.Looks.{span_from, span_to}
 use Rattle.monitor.specs.Placement.{blank}
 use Rattle.monitor.specs.Regions.{acquires_of, releases_of, before_first, after_last, InRegion}
-use Rattle.monitor.proofs.Bounding.{after_last_above, after_last_below, after_last_push, before_first_above, before_first_below, before_first_within, after_last_within}
+use Rattle.monitor.proofs.Bounding.{after_last_above, after_last_below, after_last_push, before_first_above, before_first_below, before_first_within}
 use Rattle.monitor.proofs.Leveling.{take_next}
 
 -- an access neither acquires nor releases
 no_release : {e : Event} (t : ℕ) → Access e → releases_of t e ≡ true → ⊥
-no_release {e} t (reads s) h = false≢true (ap (λ (a : Letter). any_object (released_by a e.thread e.number)) (sym s) ∙ (and_parts (eqb e.thread t) (any_object (released e)) h).1)
-no_release {e} t (writes s) h = false≢true (ap (λ (a : Letter). any_object (released_by a e.thread e.number)) (sym s) ∙ (and_parts (eqb e.thread t) (any_object (released e)) h).1)
+no_release = search rules
 
 no_acquire : {e : Event} (t : ℕ) → Access e → acquires_of t e ≡ true → ⊥
-no_acquire {e} t (reads s) h = false≢true (ap (λ (a : Letter). any_object (acquired_by a e.thread e.number)) (sym s) ∙ (and_parts (eqb e.thread t) (any_object (acquired e)) h).1)
-no_acquire {e} t (writes s) h = false≢true (ap (λ (a : Letter). any_object (acquired_by a e.thread e.number)) (sym s) ∙ (and_parts (eqb e.thread t) (any_object (acquired e)) h).1)
+no_acquire = search rules
 
 module _ (L : List Event) where
   abbrev ev : ℕ → Event
@@ -34,10 +29,7 @@ module _ (L : List Event) where
       (ap test (get_or-take i L j blank lt) ∙ h)
 
   pub front_most : (test : Event → Bool) (i k : ℕ) → ((j : ℕ) → j < i → j < length L → test (ev j) ≡ true → j < k) → after_last test (take i L) ≤ k
-  front_most test i k h =
-      after_last_below test (take i L) k (λ j lt p.
-      let lj : j < i = omega (arith, length-take i L) in
-      h j lj (omega (arith, length-take i L)) (sym (ap test (get_or-take i L j blank lj)) ∙ p))
+  front_most = search (rules, length-take, get_or-take, after_last_below)
 
   pub back : (test : Event → Bool) (i j : ℕ) → i ≤ j → j < length L → test (ev j) ≡ true → i + before_first test (drop i L) ≤ j
   back test i j le lj h =
@@ -79,20 +71,10 @@ module _ (L : List Event) where
   pub span_to_within : (t k : ℕ) → k ≤ length L → span_to L t k ≤ length L
   span_to_within t k lk = let m = before_first_within (acquires_of t) (drop k L) in omega (arith, length-drop k L)
 
-  pub span_from_within : (t k : ℕ) → k ≤ length L → span_from L t k ≤ k
-  span_from_within t k lk = let m = after_last_within (releases_of t) (take k L) in omega (arith, length-take k L)
-
   -- where the event at k is no release of t, the span of the moment after it holds that of the moment before it
   module _ (t k : ℕ) (lk : k < length L) (calm : releases_of t (ev k) ≡ false) where
     pub span_from_next : span_from L t (suc k) ≡ span_from L t k
-    span_from_next =
-        ap (after_last (releases_of t)) (take_next L k lk)
-        ∙ after_last_push (releases_of t) (take k L) (ev k)
-        ∙ cond-false (releases_of t (ev k)) _ _ calm
+    span_from_next = search (rules, after_last_push, take_next)
 
     pub span_to_next : span_to L t k ≤ span_to L t (suc k)
-    span_to_next = subst (λ M. k + before_first (acquires_of t) M ≤ span_to L t (suc k)) (sym (drop-cons L k blank lk)) (go (acquires_of t (ev k)))
-      where
-        go : (b : Bool) → k + cond b 0 (suc (before_first (acquires_of t) (drop (suc k) L))) ≤ suc k + before_first (acquires_of t) (drop (suc k) L)
-        go true = omega arith
-        go false = omega arith
+    span_to_next = search (rules, drop-cons)

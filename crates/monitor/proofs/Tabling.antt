@@ -1,10 +1,10 @@
 -- A table that has the levels after some events, and one event more.
-use Rattle.std.proofs.Common.{◌≡◌, ℕ, zero, suc, ◌+◌, ◌*◌, ◌/◌, ◌%◌, ◌<◌, ◌≤◌, min, Bool, true, false, cond, List, [], ◌∷◌, ◌++◌, length, get_or, drop, set, replicate, sym, refl, ap, ◌∙◌, subst, ap₂, ⊎_elim, mul_comm, arith, length-append, length-drop, length-set}
+use Rattle.std.proofs.Common.{rules, ◌≡◌, ℕ, zero, suc, ◌/◌, ◌%◌, ◌<◌, ◌≤◌, min, true, false, List, [], ◌∷◌, ◌++◌, length, get_or, drop, set, replicate, sym, refl, ap, ◌∙◌, subst, ap₂, ⊎_elim, arith, length-append, length-drop, length-set}
 use lib.ListN.{length-replicate}
-use Rattle.std.proofs.lemmas.Nat.{mul-add-lt, div-mul-add, mod-mul-add, div-add-mod'}
+use Rattle.std.proofs.lemmas.Nat.{div-mul-add, mod-mul-add, div-add-mod'}
 use Rattle.std.proofs.lemmas.List.FromFn.{length-map-range_with_len, get_or-map-range_with_len, fill_by_all}
 use Rattle.std.proofs.lemmas.List.{get_or_append_left, get_or-set_same, get_or-set_other, get_or-replicate, set-append_left, set-get_or, drop_at, drop_all}
-use Rattle.std.proofs.lemmas.Bool.{cases_Bool, cases_eq, cases_lt, cond-true}
+use Rattle.std.proofs.lemmas.Bool.{cases_Bool, cases_eq}
 use Rattle.event.specs.declared.counts.Counts.{Counts}
 use Rattle.event.specs.declared.record.Event.{Event}
 use Rattle.event.specs.Thins.{Placed}
@@ -13,8 +13,7 @@ use Rattle.monitor.specs.declared.level.Level.TheVariants.{None as none}
 use Rattle.monitor.specs.Levels.{level, after}
 use Rattle.monitor.specs.Looks.{monitors}
 use Rattle.monitor.specs.Tables.{size, slot, cleared, stepped, grid, tabled}
-use Rattle.monitor.proofs.Leveling.{monitors_limit, level_push, after_other, keeps_other}
-use Rattle.monitor.proofs.Marking.{own, own_true, own_parts}
+use Rattle.monitor.proofs.Leveling.{monitors_limit, level_push, keeps_other}
 
 -- ---- clearing
 
@@ -25,17 +24,13 @@ clear_more (suc i) [] x h = absurd (omega arith)
 clear_more (suc i) (y ∷ xs) x h = ap (λ l. x ∷ l) (clear_more i xs x (omega arith))
 
 pub drop_min : {S : Type 0} (n : ℕ) (xs : List S) → drop (min n (length xs)) xs ≡ drop n xs
-drop_min n xs =
-    ⊎_elim
-    (λ lt. let s : min n (length xs) ≡ n = omega arith in ap (λ k. drop k xs) s)
-    (λ le. let s : min n (length xs) ≡ length xs = omega arith in ap (λ k. drop k xs) s ∙ drop_all (length xs) xs (omega arith) ∙ sym (drop_all n xs le))
-    (cases_lt n (length xs))
+drop_min = search (rules, drop_all)
 
 -- ---- levels in a table
 
 module _ (c : Counts) where
   pub slot_within : (t v : ℕ) → t < c.threads → v < c.variables → slot c t v < size c
-  slot_within t v lt lv = let h = mul-add-lt t c.variables v c.threads lt lv in omega (arith, h, mul_comm c.variables c.threads)
+  slot_within = search rules
 
   -- the level at an index
   abbrev at : List Event → ℕ → Level
@@ -51,11 +46,7 @@ module _ (c : Counts) where
   at_slot L t v lv = ap₂ (λ a b. level L a b) (div-mul-add t c.variables v lv) (mod-mul-add t c.variables v lv)
 
   pub tabled_at : (L : List Event) (xs : List Level) (t v : ℕ) → t < c.threads → v < c.variables → get_or (tabled c L xs) (slot c t v) none ≡ level L t v
-  tabled_at L xs t v lt lv =
-      let within = slot_within t v lt lv in
-      get_or_append_left (grid c L) (drop (size c) xs) none (slot c t v) (omega (arith, grid_length L))
-      ∙ grid_at L (slot c t v) within
-      ∙ at_slot L t v lv
+  tabled_at = search (rules, get_or_append_left, grid_length, grid_at, at_slot)
 
   pub tabled_none : (xs : List Level) → size c ≤ length xs → cleared c xs ≡ tabled c [] xs
   tabled_none xs le =
@@ -87,13 +78,7 @@ module _ (c : Counts) where
 
     -- at an index that is not the event's, the level stays
     elsewhere : (i : ℕ) → (i ≡ here → ⊥) → at (L ++ e ∷ []) i ≡ at L i
-    elsewhere i ne = level_push L e (i / c.variables) (i % c.variables) ∙ go (own (i / c.variables) (i % c.variables) e) refl
-      where
-        go : (b : Bool) → own (i / c.variables) (i % c.variables) e ≡ b → cond b (after e.letter (at L i)) (at L i) ≡ at L i
-        go true h =
-            let p = own_parts (i / c.variables) (i % c.variables) e h in
-            absurd (ne (sym (div-add-mod' i c.variables) ∙ ap₂ (λ a b. a * c.variables + b) (sym p.0) (sym p.1)))
-        go false h = refl
+    elsewhere = search (rules, div-add-mod', level_push)
 
     -- an event that sets no level changes nothing
     grid_calm : monitors e.letter ≡ false → grid c L ≡ grid c (L ++ e ∷ [])
@@ -112,10 +97,7 @@ module _ (c : Counts) where
       here_at = grid_at L here here_within ∙ at_slot L e.thread e.number number_within
 
       new_at : at (L ++ e ∷ []) here ≡ after e.letter (level L e.thread e.number)
-      new_at =
-          at_slot (L ++ e ∷ []) e.thread e.number number_within
-          ∙ level_push L e e.thread e.number
-          ∙ cond-true (own e.thread e.number e) _ _ (own_true e.thread e.number e refl refl)
+      new_at = search (rules, level_push, at_slot)
 
       grid_set : set (grid c L) here (after e.letter (get_or (grid c L) here none)) ≡ grid c (L ++ e ∷ [])
       grid_set =
@@ -130,17 +112,10 @@ module _ (c : Counts) where
           (cases_eq i here))
 
       step_sets : (xs : List Level) → stepped c (tabled c L xs) e ≡ tabled c (L ++ e ∷ []) xs
-      step_sets xs =
-          let in_grid : here < length (grid c L) = omega (arith, grid_length L, here_within) in
-          ap (λ l. set (tabled c L xs) here (after e.letter l)) (get_or_append_left (grid c L) (drop (size c) xs) none here in_grid)
-          ∙ set-append_left (grid c L) (drop (size c) xs) here _ in_grid
-          ∙ ap (λ l. l ++ drop (size c) xs) grid_set
+      step_sets = search (rules, get_or_append_left, set-append_left, grid_length, here_within, grid_set)
 
     step_calm : monitors e.letter ≡ false → (xs : List Level) → stepped c (tabled c L xs) e ≡ tabled c (L ++ e ∷ []) xs
-    step_calm calm xs =
-        ap (λ l. set (tabled c L xs) here l) (after_other e.letter (get_or (tabled c L xs) here none) calm)
-        ∙ set-get_or (tabled c L xs) here none
-        ∙ ap (λ l. l ++ drop (size c) xs) (grid_calm calm)
+    step_calm = search (rules, set-get_or, grid_calm)
 
     pub tabled_calm : monitors e.letter ≡ false → (xs : List Level) → tabled c L xs ≡ tabled c (L ++ e ∷ []) xs
     tabled_calm calm xs = ap (λ l. l ++ drop (size c) xs) (grid_calm calm)

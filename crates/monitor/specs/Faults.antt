@@ -1,5 +1,6 @@
 -- The number, layer and place of a refused placement. Layer 5 is the instrumenter.
-use Rattle.event.specs.Faults.{Filed, filed, caller_filed}
+use Rattle.event.specs.declared.filed.Filed.{Filed}
+use Rattle.event.specs.Faults.{filed, caller_filed}
 use Rattle.monitor.specs.declared.fault.PlacementFault.{PlacementFault}
 use Rattle.monitor.specs.declared.fault.PlacementFault.TheVariants.{Caller, Uncovered}
 

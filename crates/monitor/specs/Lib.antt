@@ -3,6 +3,7 @@ pub mod Regions
 pub mod Placement
 pub mod Looks
 pub mod Tables
+pub mod Lent
 pub mod Faults
 pub mod Checks
 pub mod Overlaps

@@ -3,7 +3,7 @@ ghost use Rattle.std.specs.Prelude.{◌≡◌};
 ghost use Rattle.monitor.specs.declared.fault.PlacementFault.TheVariants.{Caller};
 ghost use Rattle.monitor.specs.Faults.{placement_filed};
 
-use event::CallerFault;
+use event::{CallerFault, Fault, Filed};
 
 #[derive(Clone, Copy, PartialEq, Eq, Debug)]
 pub enum PlacementFault {
@@ -20,31 +20,17 @@ impl From<CallerFault> for PlacementFault {
     }
 }
 
-impl PlacementFault {
-    pub fn number(&self) -> u8
-        ensures { result ≡ (placement_filed self.now).number }
-    {
-        match self {
-            PlacementFault::Caller(f) => f.number(),
-            PlacementFault::Uncovered { .. } => 11,
-        }
-    }
+impl Fault for PlacementFault {
+    ghost filing = { placement_filed };
 
-    pub fn layer(&self) -> u8
-        ensures { result ≡ (placement_filed self.now).layer }
-    {
+    fn filed(&self) -> Filed {
         match self {
-            PlacementFault::Caller(f) => f.layer(),
-            PlacementFault::Uncovered { .. } => 5,
-        }
-    }
-
-    pub fn place(&self) -> usize
-        ensures { result ≡ (placement_filed self.now).place }
-    {
-        match self {
-            PlacementFault::Caller(f) => f.place(),
-            PlacementFault::Uncovered { moment } => *moment,
+            PlacementFault::Caller(f) => f.filed(),
+            PlacementFault::Uncovered { moment } => Filed {
+                number: 11,
+                layer: 5,
+                place: *moment,
+            },
         }
     }
 }

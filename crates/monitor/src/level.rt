@@ -6,7 +6,8 @@ ghost use Rattle.monitor.specs.Levels.{after, rank, higher, lower, worth};
 
 use event::Letter;
 
-#[derive(Clone, Copy, PartialEq, Eq, Debug)]
+// In rising order.
+#[derive(Clone, Copy, PartialEq, Eq, PartialOrd, Ord, Debug)]
 pub enum Level {
     None,
     Weak,
@@ -20,8 +21,8 @@ impl Level {
     {
         match letter {
             Letter::Strong => Level::Strong,
-            Letter::Weak => self.higher(Level::Weak),
-            Letter::Downgrade => self.lower(Level::Weak),
+            Letter::Weak => self.max(Level::Weak),
+            Letter::Downgrade => self.min(Level::Weak),
             Letter::Stop => Level::None,
             _ => self,
         }
@@ -31,33 +32,21 @@ impl Level {
     pub fn rank(self) -> u8
         ensures { result ≡ rank self }
     {
-        match self {
-            Level::None => 0,
-            Level::Weak => 1,
-            Level::Strong => 2,
-        }
+        self as u8
     }
 
     // The higher of two levels.
     pub fn higher(self, other: Level) -> Level
         ensures { result ≡ higher self other }
     {
-        if self.rank() < other.rank() {
-            other
-        } else {
-            self
-        }
+        self.max(other)
     }
 
     // The lower of two levels.
     pub fn lower(self, other: Level) -> Level
         ensures { result ≡ lower self other }
     {
-        if self.rank() < other.rank() {
-            self
-        } else {
-            other
-        }
+        self.min(other)
     }
 
     // The highest level that an event with this letter fits: a write fits strong, a read weak, and what is no access none.
@@ -75,21 +64,13 @@ impl Level {
     pub fn suits(self, letter: Letter) -> bool
         ensures { result ≡ suits self letter }
     {
-        match self {
-            Level::None => false,
-            Level::Weak => matches!(letter, Letter::Read | Letter::Write),
-            Level::Strong => matches!(letter, Letter::Write),
-        }
+        self != Level::None && self <= Level::worth(letter)
     }
 
     // Whether one of the two levels is strong and the other not none.
     pub fn meets(self, other: Level) -> bool
         ensures { result ≡ meets self other }
     {
-        match self {
-            Level::None => false,
-            Level::Weak => matches!(other, Level::Strong),
-            Level::Strong => !matches!(other, Level::None),
-        }
+        self.max(other) == Level::Strong && self.min(other) != Level::None
     }
 }

@@ -3,11 +3,11 @@
 ghost use Rattle.std.specs.Prelude.{◌≡◌, ◌≤◌, ◌&&◌, length, replicate};
 ghost use Rattle.monitor.specs.declared.level.Level.TheVariants.{None as none};
 ghost use Rattle.monitor.specs.Regions.{acquires_of, releases_of, after_last, before_first};
-ghost use Rattle.monitor.specs.Looks.{can_uncover, span_from, span_to, marks_of, raised, row_bare, thread_bare};
+ghost use Rattle.monitor.specs.Looks.{can_uncover, span, marks_of, raised, row_bare, thread_bare};
 
 use crate::level::Level;
-use crate::table::get;
-use event::{Counts, Event, Letter};
+use crate::table::Levels;
+use event::{Event, Letter};
 
 // Whether a moment that was covered before the event can be uncovered after it.
 fn may_uncover(e: Event) -> bool
@@ -20,29 +20,15 @@ fn may_uncover(e: Event) -> bool
         )
 }
 
-fn is_release(e: Event, thread: u8) -> bool
-    ensures { result ≡ releases_of thread e }
-{
-    e.thread == thread && e.releases().is_some()
-}
-
-fn is_acquire(e: Event, thread: u8) -> bool
-    ensures { result ≡ acquires_of thread e }
-{
-    e.thread == thread && e.acquires().is_some()
-}
-
 // One more than the index of the thread's last release, or 0.
 fn after_last_release(events: &[Event], thread: u8) -> usize
     ensures value { result ≡ after_last (releases_of thread) events.now }
     ensures within { result ≤ length events.now }
 {
-    for i in (0..events.len()).rev() {
-        if is_release(events[i], thread) {
-            return i + 1;
-        }
-    }
-    0
+    events
+        .iter()
+        .rposition(|e| e.thread == thread && e.releases().is_some())
+        .map_or(0, |i| i + 1)
 }
 
 // The index of the thread's first acquire, or the number of events.
@@ -50,33 +36,57 @@ fn before_first_acquire(events: &[Event], thread: u8) -> usize
     ensures value { result ≡ before_first (acquires_of thread) events.now }
     ensures within { result ≤ length events.now }
 {
-    for i in 0..events.len() {
-        if is_acquire(events[i], thread) {
-            return i;
-        }
-    }
-    events.len()
+    events
+        .iter()
+        .position(|e| e.thread == thread && e.acquires().is_some())
+        .unwrap_or(events.len())
 }
 
-// The indices, from the first to before the second, at which an access of the thread has the moment in its region.
-pub(crate) fn span(events: &[Event], moment: usize, thread: u8) -> (usize, usize)
-    requires { moment ≤ length events.now }
-    ensures from { result.0 ≡ span_from events.now thread moment }
-    ensures to { result.1 ≡ span_to events.now thread moment }
-    ensures within { (result.0 ≤ result.1) × (result.1 ≤ length events.now) }
-{
-    let from = after_last_release(&events[0..moment], thread);
-    let to = moment + before_first_acquire(&events[moment..events.len()], thread);
-    (from, to)
+// One thread at one moment: moment k is after the first k events.
+#[derive(Clone, Copy)]
+pub(crate) struct Look<'e> {
+    pub(crate) events: &'e [Event],
+    pub(crate) moment: usize,
+    pub(crate) thread: u8,
+    ghost within: { moment ≤ length events.now },
+}
+
+impl<'e> Look<'e> {
+    // The events among which each access of the thread has the moment in its region, and no other access of it has.
+    pub(crate) fn span(self) -> &'e [Event]
+        ensures { result.now ≡ span self.entry.events.now self.entry.thread self.entry.moment }
+    {
+        let from = after_last_release(&self.events[..self.moment], self.thread);
+        let to = self.moment + before_first_acquire(&self.events[self.moment..], self.thread);
+        &self.events[from..to]
+    }
+
+    // Whether the thread holds a level at the moment that no access covers.
+    fn is_bare(self, levels: &Levels<'_>) -> bool
+        ensures { result ≡ thread_bare levels.now.counts self.entry.events.now self.entry.moment self.entry.thread levels.now.table.now }
+    {
+        // A mark for each variable that counts can declare, without a heap.
+        let mut marks = [Level::None; 256];
+        mark_all(&mut marks, self.span(), self.thread);
+        is_row_bare(levels, self.thread, &marks)
+    }
+
+    // Whether the event just before the moment uncovers it.
+    pub(crate) fn uncovered_by(self, e: Event, levels: &Levels<'_>) -> bool
+        ensures { result ≡ (can_uncover e && thread_bare levels.now.counts self.entry.events.now self.entry.moment self.entry.thread levels.now.table.now) }
+    {
+        may_uncover(e) && self.is_bare(levels)
+    }
 }
 
 // Raises the mark of a variable to a level.
 fn raise(marks: &mut [Level], variable: u16, level: Level)
     ensures { marks.new ≡ raised marks.old variable level }
 {
+    // By index: after a write through a slice's `get_mut` a proof knows no element of the slice.
     let v = usize::from(variable);
     if v < marks.len() {
-        marks[v] = marks[v].higher(level);
+        marks[v] = marks[v].max(level);
     }
 }
 
@@ -85,8 +95,7 @@ fn mark_all(marks: &mut [Level], events: &[Event], thread: u8)
     requires { marks.old ≡ replicate 256 none }
     ensures { marks.new ≡ marks_of thread events.now }
 {
-    for i in 0..events.len() {
-        let e = events[i];
+    for e in events {
         if e.thread == thread {
             raise(marks, e.number, Level::worth(e.letter));
         }
@@ -94,40 +103,9 @@ fn mark_all(marks: &mut [Level], events: &[Event], thread: u8)
 }
 
 // Whether a level of the thread is above the mark of its variable.
-fn is_row_bare(counts: Counts, levels: &[Level], thread: u8, marks: &[Level]) -> bool
+fn is_row_bare(levels: &Levels<'_>, thread: u8, marks: &[Level]) -> bool
     requires { 256 ≤ length marks.now }
-    ensures { result ≡ row_bare counts levels.now thread marks.now }
+    ensures { result ≡ row_bare levels.now.counts levels.now.table.now thread marks.now }
 {
-    for v in 0..counts.variables() {
-        let level = get(counts, levels, thread, v as u16);
-        if marks[v].rank() < level.rank() {
-            return true;
-        }
-    }
-    false
-}
-
-// Whether the thread holds a level at the moment that no access covers.
-fn is_bare(counts: Counts, events: &[Event], moment: usize, thread: u8, levels: &[Level]) -> bool
-    requires { moment ≤ length events.now }
-    ensures { result ≡ thread_bare counts events.now moment thread levels.now }
-{
-    let (from, to) = span(events, moment, thread);
-    let mut marks = [Level::None; 256];
-    mark_all(&mut marks, &events[from..to], thread);
-    is_row_bare(counts, levels, thread, &marks)
-}
-
-// Whether the event just before a moment uncovers that moment.
-pub(crate) fn uncovers(
-    counts: Counts,
-    events: &[Event],
-    moment: usize,
-    e: Event,
-    levels: &[Level],
-) -> bool
-    requires { moment ≤ length events.now }
-    ensures { result ≡ (can_uncover e && thread_bare counts events.now moment e.thread levels.now) }
-{
-    may_uncover(e) && is_bare(counts, events, moment, e.thread, levels)
+    (0..levels.counts.variables()).any(|v| marks[v] < levels.get(thread, v as u16))
 }

@@ -4,7 +4,7 @@ ghost use Rattle.monitor.specs.Overlaps.{fitting_access_of, by_place, paired, me
 ghost use Rattle.monitor.specs.Placement.{fits};
 
 use crate::level::Level;
-use crate::look::span;
+use crate::look::Look;
 use crate::table::get;
 use event::{Counts, Event};
 
@@ -15,7 +15,19 @@ fn fits(e: Event, thread: u8, variable: u16, level: Level) -> bool
     e.thread == thread && e.number == variable && level.suits(e.letter)
 }
 
-// The lowest access of the thread to the variable that fits the level and has the moment in its region.
+impl Look<'_> {
+    // The lowest access of the thread to the variable that fits the level and has the moment in its region.
+    fn fitting(self, variable: u16, level: Level) -> Option<Event>
+        ensures { result ≡ fitting_access_of self.entry.events.now self.entry.moment self.entry.thread variable level }
+    {
+        self.span()
+            .iter()
+            .find(|e| fits(**e, self.thread, variable, level))
+            .copied()
+    }
+}
+
+// The same, and none behind the last moment.
 pub fn fitting_access(
     events: &[Event],
     moment: usize,
@@ -28,13 +40,12 @@ pub fn fitting_access(
     if moment > events.len() {
         return None;
     }
-    let (from, to) = span(events, moment, thread);
-    for i in from..to {
-        if fits(events[i], thread, variable, level) {
-            return Some(events[i]);
-        }
-    }
-    None
+    let look = Look {
+        events,
+        moment,
+        thread,
+    };
+    look.fitting(variable, level)
 }
 
 // Two accesses, the earlier by place first.
@@ -48,30 +59,31 @@ fn by_place(a: Event, b: Event) -> (Event, Event)
 fn paired(a: Option<Event>, b: Option<Event>) -> Option<(Event, Event)>
     ensures { result ≡ paired a b }
 {
-    match (a, b) {
-        (Some(a), Some(b)) => Some(by_place(a, b)),
-        _ => None,
-    }
+    a.zip(b).map(|(a, b)| by_place(a, b))
 }
 
-// What two threads name at a moment, where their levels on a variable meet.
+// What the thread of a look and another name at its moment, where their levels on a variable meet.
 fn met_on(
-    events: &[Event],
-    moment: usize,
-    thread: u8,
+    own: Look<'_>,
     other: u8,
     variable: u16,
     level: Level,
     others: Level,
 ) -> Option<(Event, Event)>
-    ensures { result ≡ meeting_on events.now moment thread other variable level others }
+    ensures { result ≡ meeting_on own.entry.events.now own.entry.moment own.entry.thread other variable level others }
 {
-    if other == thread || !level.meets(others) {
+    if other == own.thread || !level.meets(others) {
         return None;
     }
-    let own = fitting_access(events, moment, thread, variable, level);
-    let theirs = fitting_access(events, moment, other, variable, others);
-    paired(own, theirs)
+    let theirs = Look {
+        events: own.events,
+        moment: own.moment,
+        thread: other,
+    };
+    paired(
+        own.fitting(variable, level),
+        theirs.fitting(variable, others),
+    )
 }
 
 // What the event at an index and another thread name, with the levels of the moment just after the event.
@@ -84,11 +96,17 @@ pub fn named(
 ) -> Option<(Event, Event)>
     ensures { result ≡ named counts events.now index other levels.now }
 {
-    if index >= events.len() {
-        return None;
-    }
-    let e = events[index];
-    let level = get(counts, levels, e.thread, e.number);
-    let others = get(counts, levels, other, e.number);
-    met_on(events, index + 1, e.thread, other, e.number, level, others)
+    let e = *events.get(index)?;
+    let own = Look {
+        events,
+        moment: index + 1,
+        thread: e.thread,
+    };
+    met_on(
+        own,
+        other,
+        e.number,
+        get(counts, levels, e.thread, e.number),
+        get(counts, levels, other, e.number),
+    )
 }

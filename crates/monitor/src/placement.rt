@@ -3,29 +3,34 @@ ghost use Rattle.std.specs.Prelude.{◌≡◌, ◌≤◌, [], length};
 ghost use Rattle.event.specs.Thins.{Sound};
 ghost use Rattle.source.specs.Listed.{listed};
 ghost use Rattle.monitor.specs.Tables.{size, tabled};
+ghost use Rattle.monitor.specs.Lent.{LeftWith};
 ghost use Rattle.monitor.specs.Placement.{lowest};
 ghost use Rattle.monitor.specs.Checks.{checked, Judged, reached, left};
 
 use crate::fault::PlacementFault;
 use crate::level::Level;
-use crate::look::uncovers;
-use crate::table::{clear, room, step};
-use event::{Counts, Event};
+use crate::look::Look;
+use crate::table::{Levels, room};
+use event::Event;
 use source::EventList;
 
 // The lowest uncovered moment. The levels are left as they are at that moment, or at the last one.
-fn first_uncovered(counts: Counts, events: &[Event], levels: &mut [Level]) -> Option<usize>
-    requires sound { Sound counts events.now }
-    requires room { size counts ≤ length levels.old }
-    requires clear { levels.old ≡ tabled counts [] levels.old }
-    ensures answer { result ≡ lowest counts events.now }
-    ensures levels { levels.new ≡ tabled counts (reached counts events.now) levels.old }
+fn first_uncovered(events: &[Event], levels: &mut Levels<'_>) -> Option<usize>
+    requires sound { Sound levels.old.counts events.now }
+    requires room { size levels.old.counts ≤ length levels.old.table.now }
+    requires clear { levels.old.table.now ≡ tabled levels.old.counts [] levels.old.table.now }
+    ensures answer { result ≡ lowest levels.old.counts events.now }
+    ensures levels { LeftWith levels.old levels.new (tabled levels.old.counts (reached levels.old.counts events.now) levels.old.table.now) }
 {
-    for i in 0..events.len() {
-        let e = events[i];
-        step(counts, levels, e);
-        if uncovers(counts, events, i + 1, e, levels) {
-            return Some(i + 1);
+    for (i, &e) in events.iter().enumerate() {
+        levels.step(e);
+        let look = Look {
+            events,
+            moment: i + 1,
+            thread: e.thread,
+        };
+        if look.uncovered_by(e, levels) {
+            return Some(look.moment);
         }
     }
     None
@@ -40,9 +45,13 @@ pub fn check(list: &EventList<'_>, levels: &mut [Level]) -> Result<(), Placement
 {
     let counts = list.counts();
     room(counts, levels.len())?;
-    clear(counts, levels);
-    match first_uncovered(counts, list.as_slice(), levels) {
-        Some(moment) => Err(PlacementFault::Uncovered { moment }),
-        None => Ok(()),
-    }
+    let mut lent = Levels {
+        counts,
+        table: levels,
+    };
+    lent.clear();
+    first_uncovered(list.as_slice(), &mut lent).map_or(
+        Ok(()),
+        |moment| Err(PlacementFault::Uncovered { moment }),
+    )
 }

@@ -1,11 +1,12 @@
 // A lent table of levels: one entry for each thread and variable, thread by thread.
-ghost use Rattle.std.specs.Prelude.{◌≡◌, slice_index_or};
+ghost use Rattle.std.specs.Prelude.{◌≡◌, length, slice_index_or};
 ghost use Rattle.monitor.specs.declared.level.Level.TheVariants.{None as none};
 ghost use Rattle.monitor.specs.Overlaps.{raises};
 ghost use Rattle.monitor.specs.Tables.{size, slot, cleared, stepped, room};
+ghost use Rattle.monitor.specs.Lent.{LeftWith};
 
 use crate::level::Level;
-use event::{CallerFault, Counts, Event};
+use event::{CallerFault, Counts, Event, table};
 
 // How many entries the counts need.
 pub fn size(counts: Counts) -> usize
@@ -32,45 +33,56 @@ pub fn room(counts: Counts, levels: usize) -> Result<(), CallerFault>
     Ok(())
 }
 
-// Makes the entries that the counts use none; the others stay.
-pub fn clear(counts: Counts, levels: &mut [Level])
-    ensures { levels.new ≡ cleared counts levels.old }
-{
-    let used = size(counts).min(levels.len());
-    for i in 0..used {
-        levels[i] = Level::None;
-    }
-}
-
 // The level of a thread on a variable, none past the table's end.
 pub fn get(counts: Counts, levels: &[Level], thread: u8, variable: u16) -> Level
     ensures { result ≡ slice_index_or levels.now (slot counts thread variable) none }
 {
-    let i = slot(counts, thread, variable);
-    if i < levels.len() {
-        levels[i]
-    } else {
-        Level::None
-    }
+    levels
+        .get(slot(counts, thread, variable))
+        .copied()
+        .unwrap_or(Level::None)
 }
 
-// What an event does to the level of its thread on its variable.
-pub fn step(counts: Counts, levels: &mut [Level], e: Event)
-    ensures { levels.new ≡ stepped counts levels.old e }
-{
-    let i = slot(counts, e.thread, e.number);
-    if i < levels.len() {
-        levels[i] = levels[i].after(e.letter);
-    }
+// The levels of all threads, which change from event to event: the table, and the counts that say where its entries stand.
+#[derive(Drop)]
+pub struct Levels<'t> {
+    pub counts: Counts,
+    pub table: &'t mut [Level],
 }
 
-// The same, and whether the level rises.
-pub fn step_up(counts: Counts, levels: &mut [Level], e: Event) -> bool
-    ensures levels { levels.new ≡ stepped counts levels.old e }
-    ensures rises { result ≡ raises counts e levels.old levels.new }
-{
-    let before = get(counts, levels, e.thread, e.number);
-    step(counts, levels, e);
-    let after = get(counts, levels, e.thread, e.number);
-    before.rank() < after.rank()
+impl Levels<'_> {
+    // Makes the entries that the counts use none; the others stay.
+    pub fn clear(&mut self)
+        ensures { LeftWith self.old self.new (cleared self.old.counts self.old.table.now) }
+    {
+        table::clear(self.table, size(self.counts), Level::None);
+    }
+
+    // The level of a thread on a variable, none past the table's end.
+    pub fn get(&self, thread: u8, variable: u16) -> Level
+        ensures { result ≡ slice_index_or self.now.table.now (slot self.now.counts thread variable) none }
+    {
+        get(self.counts, self.table, thread, variable)
+    }
+
+    // What an event does to the level of its thread on its variable.
+    pub fn step(&mut self, e: Event)
+        ensures { LeftWith self.old self.new (stepped self.old.counts self.old.table.now e) }
+    {
+        // By index: after a write through a slice's `get_mut` a proof knows no entry of the slice.
+        let i = slot(self.counts, e.thread, e.number);
+        if i < self.table.len() {
+            self.table[i] = self.table[i].after(e.letter);
+        }
+    }
+
+    // The same, and whether the level rises.
+    pub fn step_up(&mut self, e: Event) -> bool
+        ensures levels { LeftWith self.old self.new (stepped self.old.counts self.old.table.now e) }
+        ensures rises { result ≡ raises self.old.counts e self.old.table.now self.new.table.now }
+    {
+        let before = self.get(e.thread, e.number);
+        self.step(e);
+        before < self.get(e.thread, e.number)
+    }
 }

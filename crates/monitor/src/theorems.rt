@@ -1,50 +1,34 @@
 // The mathematics of monitors: each theorem is the contract of a small function.
 ghost use Rattle.monitor.specs.Theorems.{RegionsAgree, RegionsAreSpans, OnlySomeEventsUncover, PlacementIsComputed, EachOverlapIsARace, EachMeetingOverlaps, OverlapsAreComputed, TablesFindOverlaps};
 
-pub fn regions_agree() -> u8
+pub fn regions_agree()
     ensures { RegionsAgree }
-{
-    0
-}
+{}
 
-pub fn regions_are_spans() -> u8
+pub fn regions_are_spans()
     ensures { RegionsAreSpans }
-{
-    0
-}
+{}
 
-pub fn only_some_events_uncover() -> u8
+pub fn only_some_events_uncover()
     ensures { OnlySomeEventsUncover }
-{
-    0
-}
+{}
 
-pub fn placement_is_computed() -> u8
+pub fn placement_is_computed()
     ensures { PlacementIsComputed }
-{
-    0
-}
+{}
 
-pub fn each_overlap_is_a_race() -> u8
+pub fn each_overlap_is_a_race()
     ensures { EachOverlapIsARace }
-{
-    0
-}
+{}
 
-pub fn each_meeting_overlaps() -> u8
+pub fn each_meeting_overlaps()
     ensures { EachMeetingOverlaps }
-{
-    0
-}
+{}
 
-pub fn overlaps_are_computed() -> u8
+pub fn overlaps_are_computed()
     ensures { OverlapsAreComputed }
-{
-    0
-}
+{}
 
-pub fn tables_find_overlaps() -> u8
+pub fn tables_find_overlaps()
     ensures { TablesFindOverlaps }
-{
-    0
-}
+{}

@@ -1,44 +1,30 @@
 // Chains, entries and clocks.
 ghost use Rattle.order.specs.Theorems.{LaterEventsAddNoChain, ChainsAreComputed, ReachingIsComputed, EntriesAreComputed, TheLatestIsReached, TheEntryTest, TheClockTest};
 
-pub fn later_events_add_no_chain() -> u8
+pub fn later_events_add_no_chain()
     ensures { LaterEventsAddNoChain }
-{
-    0
-}
+{}
 
-pub fn chains_are_computed() -> u8
+pub fn chains_are_computed()
     ensures { ChainsAreComputed }
-{
-    0
-}
+{}
 
-pub fn reaching_is_computed() -> u8
+pub fn reaching_is_computed()
     ensures { ReachingIsComputed }
-{
-    0
-}
+{}
 
-pub fn entries_are_computed() -> u8
+pub fn entries_are_computed()
     ensures { EntriesAreComputed }
-{
-    0
-}
+{}
 
-pub fn the_latest_is_reached() -> u8
+pub fn the_latest_is_reached()
     ensures { TheLatestIsReached }
-{
-    0
-}
+{}
 
-pub fn the_entry_test() -> u8
+pub fn the_entry_test()
     ensures { TheEntryTest }
-{
-    0
-}
+{}
 
-pub fn the_clock_test() -> u8
+pub fn the_clock_test()
     ensures { TheClockTest }
-{
-    0
-}
+{}

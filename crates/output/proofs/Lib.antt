@@ -1,3 +1,5 @@
 pub mod Printing
-pub mod Listing
+pub mod Racing
+pub mod Saying
+pub mod Responding
 pub mod Overlapping

@@ -11,7 +11,7 @@ use Rattle.detect.specs.Pairs.{pair_of}
 use Rattle.output.specs.Inputs.{AnswersBy, Answers}
 use Rattle.output.specs.Lines.{totals_text}
 use Rattle.output.specs.Races.{report}
-use Rattle.output.specs.Said.{Said}
+use Rattle.output.specs.Words.{Said}
 
 abbrev line_of : Two → List ℕ
 line_of p = line (pair_of p)

@@ -5,7 +5,7 @@ use Rattle.event.specs.Faults.{caller_filed}
 use Rattle.format.specs.declared.fault.OrderFault.{OrderFault}
 use Rattle.format.specs.Filed.{order_filed}
 use Rattle.format.specs.Trace.{Contents, read_trace}
-use Rattle.output.specs.Said.{Said, refusing}
+use Rattle.output.specs.Words.{Said, refusing}
 
 -- an input that is too long is refused, then a file that is no trace file; any other is answered by its contents
 abbrev pub AnswersBy : (Contents → Said → Type 0) → Bool → Result Contents OrderFault → Said → Type 0

@@ -13,7 +13,7 @@ use Rattle.monitor.specs.Overlaps.{Overlap, Overlaps, InOrder}
 use Rattle.monitor.specs.Placement.{WellPlaced, LowestUncovered, lowest}
 use Rattle.output.specs.Inputs.{Answers}
 use Rattle.output.specs.Races.{report}
-use Rattle.output.specs.Said.{Said, refusing}
+use Rattle.output.specs.Words.{Said, refusing}
 
 -- the monitors are placed rightly, and the text lists their overlaps: each once, in order, and each a race
 pub record OverlapsListed (c : Counts) (L : List Event) (s : Said) : Type 0 where
@@ -39,6 +39,10 @@ ByEvents c L false s = ByPlacement c L (lowest c L) s
 abbrev pub counts_of : Contents → Counts
 counts_of c = declared_counts c.threads c.objects c.variables
 
--- a refusal, or the overlaps
+-- what may be said of the contents of a trace file: a refusal, or the overlaps
+abbrev pub ByContents : Contents → Said → Type 0
+ByContents c = ByEvents (counts_of c) c.events (nat_lt 4096 (length c.events))
+
+-- what the program answers: a refusal, or the overlaps
 abbrev pub AnswersMonitors : List ℕ → Said → Type 0
-AnswersMonitors = Answers (λ c. ByEvents (counts_of c) c.events (nat_lt 4096 (length c.events)))
+AnswersMonitors = Answers ByContents

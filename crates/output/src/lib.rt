@@ -2,11 +2,17 @@
 #![tactic(auto)]
 
 pub mod answer;
+pub mod failure;
 pub mod lines;
+pub mod listing;
 pub mod monitors;
+pub mod program;
 pub mod races;
 
-pub use answer::{Answer, LONGEST};
+pub use answer::{Answer, LONGEST, answer_of};
+pub use failure::Failure;
 pub use lines::{refusal_line, totals_line};
-pub use monitors::list_overlaps;
-pub use races::list_races;
+pub use listing::Listing;
+pub use monitors::{Overlaps, list_overlaps};
+pub use program::respond;
+pub use races::{Races, list_races};

@@ -1,54 +1,64 @@
 // The answer of the program `races`.
-ghost use Rattle.std.specs.Prelude.{◌≡◌, ◌*◌, ◌≤◌, ◌++◌, length, take, IfOk};
-ghost use Rattle.trace.specs.Whole.{contents_of};
+ghost use Rattle.std.specs.Prelude.{◌≡◌, ◌*◌, ◌≤◌, ◌++◌, length, take, IfOk, vec_items};
 ghost use Rattle.output.specs.Lines.{totals_text};
-ghost use Rattle.output.specs.Said.{Said, said, telling};
+ghost use Rattle.output.specs.Said.{said};
+ghost use Rattle.output.specs.Listings.{Says};
+ghost use Rattle.output.specs.Words.{telling};
 ghost use Rattle.output.specs.Races.{RacesListed, AnswersRaces};
 
-use crate::answer::{Answer, LONGEST};
+use crate::answer::{Answer, answer_of};
+use crate::failure::Failure;
 use crate::lines::totals_line;
+use crate::listing::Listing;
 use detect::{Totals, run_all};
-use event::{CallerFault, Event};
-use keeper::{Clocks, Keeper};
+use keeper::Clocks;
 use sink::Lines;
-use source::source::Source;
 use stamp::{Clock, Stamp};
 use std::alloc::{AllocError, Global};
-use trace::{Trace, read};
+use trace::Trace;
 
 // The lines that were written, and the totals.
-pub(crate) fn told(heap: Global, lines: &[u8], totals: Totals) -> Result<Answer, AllocError>
+fn text_of(heap: Global, lines: &[u8], totals: Totals) -> Result<Vec<u8>, AllocError>
     requires { 21 * totals.written ≤ length lines.now }
-    ensures { IfOk result (λ a. said a ≡ telling (take (21 * totals.written) lines.now ++ totals_text totals.found totals.written totals.dropped)) }
+    ensures { IfOk result (λ text. vec_items text ≡ take (21 * totals.written) lines.now ++ totals_text totals.found totals.written totals.dropped) }
 {
-    let line = totals_line(heap, totals.found, totals.written, totals.dropped)?;
+    let line = totals_line(heap, totals)?;
     let mut text = Vec::new(heap);
-    text.extend_from_slice(&lines[0..21 * totals.written as usize])?;
+    text.extend_from_slice(&lines[..21 * totals.written as usize])?;
     text.extend_from_slice(line.as_bytes())?;
-    Ok(Answer {
-        refused: false,
-        text,
-    })
+    Ok(text)
 }
 
-// Runs over the events of a trace with clocks, no filter and room for 3,000 lines.
-fn list_of(heap: Global, t: &Trace<'_>) -> Result<Answer, AllocError>
-    ensures { IfOk result (λ a. RacesListed (contents_of t.now).events (said a)) }
+// What is told of lines and totals. It is no refusal.
+pub(crate) fn told(heap: Global, lines: &[u8], totals: Totals) -> Result<Vec<u8>, Failure>
+    requires { 21 * totals.written ≤ length lines.now }
+    ensures { Says vec_items (λ s. s ≡ telling (take (21 * totals.written) lines.now ++ totals_text totals.found totals.written totals.dropped)) result }
 {
-    let mut threads = [Clock::lowest(); 16];
-    let mut objects = [Clock::lowest(); 544];
-    let mut latest = [None; 8192];
-    let mut lines = [0; 63000];
-    match Clocks::new(t.counts(), &mut threads, &mut objects) {
-        Err(f) => Answer::refusal(heap, f.number(), f.layer(), f.place()),
-        Ok(mut keeper) => {
-            let mut sink = Lines::new(&mut lines);
-            let mut events = t.events();
-            match run_all(&mut events, &mut keeper, &mut latest, &mut sink, 1_000_000) {
-                Err(f) => Answer::refusal(heap, f.number(), f.layer(), f.place()),
-                Ok(totals) => told(heap, sink.back(), totals),
-            }
-        }
+    text_of(heap, lines, totals).map_err(|_| Failure::Memory)
+}
+
+// The races of a trace's events, by a run with clocks, no filter and room for 3,000 lines.
+pub struct Races;
+
+impl Listing for Races {
+    ghost lists = { λ c. RacesListed c.events };
+
+    // The tables have the sizes that are enough for the counts of every trace. They are lent, as all tables are, and take no heap.
+    fn list(heap: Global, t: &Trace<'_>) -> Result<Vec<u8>, Failure> {
+        let mut threads = [Clock::LEAST; 16];
+        let mut objects = [Clock::LEAST; 544];
+        let mut latest = [None; 8192];
+        let mut lines = [0; 63000];
+        let mut keeper = Clocks::new(t.counts(), &mut threads, &mut objects)?;
+        let mut sink = Lines::new(&mut lines);
+        let totals = run_all(
+            &mut t.events(),
+            &mut keeper,
+            &mut latest,
+            &mut sink,
+            1_000_000,
+        )?;
+        told(heap, sink.back(), totals)
     }
 }
 
@@ -56,12 +66,5 @@ fn list_of(heap: Global, t: &Trace<'_>) -> Result<Answer, AllocError>
 pub fn list_races(heap: Global, input: &[u8]) -> Result<Answer, AllocError>
     ensures { IfOk result (λ a. AnswersRaces input.now (said a)) }
 {
-    if input.len() > LONGEST {
-        let f = CallerFault::Table { size: LONGEST + 1 };
-        return Answer::refusal(heap, f.number(), f.layer(), f.place());
-    }
-    match read(input) {
-        Ok(t) => list_of(heap, &t),
-        Err(f) => Answer::refusal(heap, f.number(), f.layer(), f.place()),
-    }
+    answer_of::<Races>(heap, input)
 }

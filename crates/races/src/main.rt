@@ -2,17 +2,12 @@
 #![tactic(auto)]
 
 use anyhow::anyhow;
-use output::{LONGEST, list_races};
-use std::io::{Read, Write};
+use output::{Races, respond};
 
 fn main(rt: HostRuntime) -> anyhow::Result<()> {
-    let heap = rt.alloc();
-    let mut input = Vec::new(heap);
-    rt.stdin().take(LONGEST as u64 + 1).read_to_end(&mut input)?;
-    let answer = list_races(heap, &input)?;
-    rt.stdout().write_all(&answer.text)?;
-    if answer.refused {
-        return Err(anyhow!("refused"));
+    if respond::<Races, _, _>(rt.alloc(), &mut rt.stdin(), &mut rt.stdout())? {
+        Ok(())
+    } else {
+        Err(anyhow!("refused"))
     }
-    Ok(())
 }

@@ -1,18 +1,18 @@
 -- A line that is written behind the others.
-use Rattle.std.proofs.Common.{◌≡◌, ℕ, ◌+◌, ◌*◌, ◌/◌, ◌<◌, min, List, ◌++◌, length, take, drop, sym, ap, ◌∙◌, append_assoc, arith, length-append, length-drop, take-append-drop}
+use Rattle.std.proofs.Common.{◌≡◌, ℕ, ◌+◌, ◌*◌, ◌/◌, ◌<◌, List, ◌++◌, length, take, drop, sym, refl, ap, ◌∙◌, append_assoc, arith, length-append, length-drop, take-append-drop}
 use borrow.Rule.Slice.PartMut.{put_mid}
 use Rattle.std.proofs.lemmas.List.{drop-drop, length-take-le, take_at, drop_at}
 use Rattle.sink.specs.declared.lines.Lines.{Lines}
 use Rattle.sink.specs.declared.pair.Pair.{Pair}
-use Rattle.sink.specs.Line.{line}
-use Rattle.sink.specs.Written.{Written, overwritten, filled, written}
+use Rattle.sink.specs.Line.{line, overwritten}
+use Rattle.sink.specs.Written.{Written, written}
 
 pub same_written : (n : ℕ) {a b c d : List ℕ} → a ≡ b → c ≡ d → ◌≡◌ {A = Written} (record { lender = n; lines = a; space = c }) (record { lender = n; lines = b; space = d })
 same_written n p q = cc
 
 -- the lent bytes are the lines and then the space
 pub all_bytes : (s : Lines) → s.bytes.now ≡ (written s).lines ++ (written s).space
-all_bytes s = sym (take-append-drop (filled s * 21) s.bytes.now)
+all_bytes s = sym (take-append-drop (s.taken * 21) s.bytes.now)
 
 -- what a write to the part of 21 bytes behind n lines leaves
 pub put_line : (at k n : ℕ) (p : Pair) (bytes l : List ℕ) → at ≡ n * 21 → k ≡ 21 → l ≡ line p → put_mid at k bytes l ≡ overwritten n p bytes
@@ -42,14 +42,9 @@ module _ (n : ℕ) (p : Pair) (bytes : List ℕ) (fits : n < length bytes / 21) 
       ∙ drop_at (take (n * 21) bytes ++ line p) (drop (n * 21 + 21) bytes) (m * 21) long
       ∙ sym (drop-drop 21 (n * 21) bytes)
 
-  -- The lines that count before are n, and after n + 1, since there was room for one more: so the front grows by the line, and the space loses it.
+  -- There was room for one line more: so the front grows by the line, and the space loses it.
   pub line_more : (lender : ℕ)
       → ◌≡◌ {A = Written}
-      (record { lender = lender; lines = take (min (n + 1) (length (overwritten n p bytes) / 21) * 21) (overwritten n p bytes); space = drop (min (n + 1) (length (overwritten n p bytes) / 21) * 21) (overwritten n p bytes) })
-      (record { lender = lender; lines = take (min n (length bytes / 21) * 21) bytes ++ line p; space = drop 21 (drop (min n (length bytes / 21) * 21) bytes) })
-  line_more lender =
-      let was : n ≡ min n (length bytes / 21) = omega arith in
-      let is : min (n + 1) (length (overwritten n p bytes) / 21) ≡ n + 1 = omega (arith, length_overwritten) in
-      same_written lender
-      (lines_overwritten _ is ∙ ap (λ k. take (k * 21) bytes ++ line p) was)
-      (space_overwritten _ is ∙ ap (λ k. drop 21 (drop (k * 21) bytes)) was)
+      (record { lender = lender; lines = take ((n + 1) * 21) (overwritten n p bytes); space = drop ((n + 1) * 21) (overwritten n p bytes) })
+      (record { lender = lender; lines = take (n * 21) bytes ++ line p; space = drop 21 (drop (n * 21) bytes) })
+  line_more lender = same_written lender (lines_overwritten (n + 1) refl) (space_overwritten (n + 1) refl)

@@ -1,5 +1,5 @@
 -- What taking does to a sink's meaning: its capacity, how many it has taken, and its record.
-use Rattle.std.specs.Prelude.{◌≡◌, ℕ, ◌+◌, cond, List, [], ◌∷◌, IfOk, IfErr, Ok, Err, Result, nat_lt}
+use Rattle.std.specs.Prelude.{◌≡◌, ℕ, ◌+◌, cond, IfOk, IfErr, Ok, Err, Result, nat_lt}
 use Rattle.event.specs.declared.fault.CallerFault.{CallerFault}
 use Rattle.event.specs.declared.fault.CallerFault.TheVariants.{Sink}
 use Rattle.sink.specs.declared.pair.Pair.{Pair}
@@ -7,11 +7,6 @@ use Rattle.sink.specs.declared.pair.Pair.{Pair}
 -- the answer of a sink that has taken so many: refused where they are as many as its capacity
 abbrev pub taking : ℕ → ℕ → Result (Unit {0}) CallerFault
 taking capacity taken = cond (nat_lt taken capacity) (Ok tt) (Err (Sink capacity))
-
--- the record after pairs, the first of them first
-abbrev pub logged : {R : Type 0} → (R → Pair → R) → R → List Pair → R
-logged step l [] = l
-logged step l (p ∷ ps) = logged step (step l p) ps
 
 module _ {S R : Type 0} (capacity taken : S → ℕ) (log : S → R) (step : R → Pair → R) where
   -- One more is taken, and the record goes one step further. A refusal changes nothing.

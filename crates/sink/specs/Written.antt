@@ -1,6 +1,5 @@
 -- What lines keep: the lines that are written, and the space behind them.
-use Rattle.std.specs.Prelude.{ℕ, ◌+◌, ◌*◌, ◌/◌, ◌≤◌, min, List, [], ◌++◌, length, take, drop}
-use Rattle.std.proofs.Common.{arith}
+use Rattle.std.specs.Prelude.{ℕ, ◌*◌, ◌/◌, List, [], ◌++◌, length, take, drop}
 use Rattle.sink.specs.declared.lines.Lines.{Lines}
 use Rattle.sink.specs.declared.pair.Pair.{Pair}
 use Rattle.sink.specs.Line.{line}
@@ -20,24 +19,13 @@ lent n bytes = record { lender = n; lines = []; space = bytes }
 abbrev pub with_line : Written → Pair → Written
 with_line w p = record { lender = w.lender; lines = w.lines ++ line p; space = drop 21 w.space }
 
--- the bytes with the pair's line behind n others: all else is as it was
-abbrev pub overwritten : ℕ → Pair → List ℕ → List ℕ
-overwritten n p bytes = take (n * 21) bytes ++ (line p ++ drop (n * 21 + 21) bytes)
-
 -- how many lines the bytes have room for
 abbrev pub room : Lines → ℕ
 room s = length s.bytes.now / 21
 
--- how many lines there are
-abbrev pub filled : Lines → ℕ
-filled s = min s.taken (room s)
-
-abbrev pub filled_fits : (s : Lines) → filled s ≤ room s
-filled_fits s = omega arith
-
 abbrev pub written : Lines → Written
 written s = record {
   lender = s.bytes.ghost_name;
-  lines = take (filled s * 21) s.bytes.now;
-  space = drop (filled s * 21) s.bytes.now;
+  lines = take (s.taken * 21) s.bytes.now;
+  space = drop (s.taken * 21) s.bytes.now;
 }

@@ -1,6 +1,6 @@
 // Lines of text, over bytes that the caller lends.
-ghost use Rattle.std.specs.Prelude.{◌≡◌, ◌/◌, ◌<◌, ◌++◌, length};
-ghost use Rattle.sink.specs.Written.{Written, lent, overwritten, room, filled, filled_fits, written, with_line};
+ghost use Rattle.std.specs.Prelude.{◌≡◌, ℕ, ◌/◌, ◌<◌, ◌≤◌, ◌++◌, length};
+ghost use Rattle.sink.specs.Line.{overwritten};
 
 use crate::line;
 use crate::pair::Pair;
@@ -8,19 +8,21 @@ use crate::sink::Sink;
 use event::CallerFault;
 
 // The lines stand at the front of the bytes. What stands behind them is as it was lent.
-// The toolchain lends no part of a slice out of a struct with an invariant, so none says that there is room for the lines taken: those count that
-// have room.
 #[derive(Drop)]
 pub struct Lines<'a> {
     bytes: &'a mut [u8],
+    // how many lines there are; the bytes are lent, so their length says only how many there can be
     taken: usize,
+    ghost fits: { taken ≤ length bytes.now / 21 },
 }
 
 impl<'a> Lines<'a> {
+    ghost use Rattle.sink.specs.Written.{lent, room, written};
+
     // No line yet.
     pub fn new(bytes: &'a mut [u8]) -> Lines<'a>
         ensures written { written result ≡ lent bytes.entry.ghost_name bytes.old }
-        ensures taken { filled result ≡ 0 }
+        ensures taken { result.taken ≡ 0 }
         ensures capacity { room result ≡ length bytes.old / 21 }
     {
         Lines { bytes, taken: 0 }
@@ -44,11 +46,13 @@ impl<'a> Lines<'a> {
 }
 
 impl<'a> Sink for Lines<'a> {
+    ghost use Rattle.sink.specs.Written.{Written, room, written, with_line};
+
     ghost capacity = { room };
 
-    ghost taken = { filled };
+    ghost taken = { λ s. s.taken };
 
-    ghost fits = { filled_fits };
+    ghost fits = { λ s. s.fits };
 
     ghost Record = { Written };
 
@@ -61,17 +65,16 @@ impl<'a> Sink for Lines<'a> {
     }
 
     fn taken(&self) -> usize {
-        self.taken.min(self.room())
+        self.taken
     }
 
     fn take(&mut self, pair: Pair) -> Result<(), CallerFault> {
         let capacity = self.room();
-        let taken = self.taken;
-        if taken >= capacity {
+        if self.taken >= capacity {
             return Err(CallerFault::Sink { capacity });
         }
-        write(self.bytes, taken, pair);
-        self.taken = taken + 1;
+        write(self.bytes, self.taken, pair);
+        self.taken += 1;
         Ok(())
     }
 }

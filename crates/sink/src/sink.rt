@@ -34,8 +34,6 @@ pub trait Sink {
 }
 
 // A refusal says that the sink is full, and a full sink refuses.
-pub fn refuses_when_full<S: Sink>(sink: &S) -> u8
+pub fn refuses_when_full<S: Sink>(sink: &S)
     ensures { Decides (is_err (taking (S.Sink.capacity sink.now) (S.Sink.taken sink.now))) (S.Sink.taken sink.now ≡ S.Sink.capacity sink.now) }
-{
-    0
-}
+{}

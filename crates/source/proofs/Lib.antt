@@ -1,4 +1,5 @@
 mod Copying
 mod Fronts
+mod Making
 mod Picking
 mod Sampling

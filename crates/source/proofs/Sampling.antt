@@ -1,15 +1,23 @@
 -- A sampler's counters, event by event.
-use Rattle.std.proofs.Common.{◌≡◌, ℕ, zero, suc, ◌+◌, ◌-◌, ◌%◌, ◌<◌, Bool, true, false, cond, ◌&&◌, eqb, ltb, leb, ◌≢◌, List, [], ◌∷◌, ◌++◌, length, get_or, set, replicate, is_ok, Ok, Err, Result, sym, refl, ap, ◌∙◌, zero-add, arith}
+use Rattle.std.proofs.Common.{◌≡◌, ℕ, zero, suc, ◌+◌, ◌-◌, ◌%◌, ◌<◌, Bool, true, false, cond, ◌&&◌, eqb, ltb, leb, ◌≢◌, List, [], ◌∷◌, ◌++◌, length, get_or, set, replicate, sym, refl, ap, ◌∙◌, zero-add, arith}
 use native.Mathlib.Nat.{mod-add-mod}
+use Rattle.std.specs.Result.{IfOk}
 use Rattle.std.proofs.lemmas.List.{get_or-set_same, get_or-set_other}
-use Rattle.std.proofs.lemmas.Bool.{false≢true, eqb-true, eqb-false, leb-true, and_parts}
-use Rattle.event.specs.declared.fault.CallerFault.{CallerFault}
-use Rattle.event.specs.declared.fault.CallerFault.TheVariants.{Sampling}
+use Rattle.std.proofs.lemmas.Bool.{eqb-true, eqb-false, leb-true, and_parts}
 use Rattle.event.specs.declared.record.Event.{Event}
 use Rattle.event.specs.Thins.{access}
 use Rattle.event.proofs.Sieving.{sieved_append, sieved_like}
+use Rattle.source.proofs.Making.{ok_if}
 use Rattle.source.specs.declared.sampler.Counters.{Counters}
-use Rattle.source.specs.Sampled.{AccessesAreNumberedByThread, accesses_of, counted, counters_for, in_burst, lets, sampled, sampled_by}
+use Rattle.source.specs.Sampled.{AccessesAreNumberedByThread, accesses_of, counters_for, in_burst, lets, sampled, sampled_by}
+
+-- the counters after an event: that of its thread has gone up at an access, and is 0 again at the period
+abbrev pub counted : Counters → Event → Counters
+counted c e = record {
+  burst = c.burst;
+  last = c.last;
+  next = cond (access e) (set c.next e.thread ((get_or c.next e.thread 0 + 1) % (c.last + 1))) c.next;
+}
 
 -- The counter of the event's thread goes up by one at an access, and no other does. It may go round at the period p, since only what is left modulo the period counts.
 counted_number : (p : ℕ) (next : List ℕ) (e : Event) (M : List Event) (t : ℕ) → (access e ≡ true → e.thread < length next) → (get_or next t 0 + accesses_of t (e ∷ M)) % p ≡ (get_or (cond (access e) (set next e.thread ((get_or next e.thread 0 + 1) % p)) next) t 0 + accesses_of t M) % p
@@ -40,26 +48,21 @@ zeros (suc n) zero = refl
 zeros (suc n) (suc t) = zeros n t
 
 -- new counters number from 0
-pub sampled_fresh : (burst period : ℕ) (c : Counters) (L : List Event) → Ok c ≡ counters_for burst period → sampled_by c L ≡ sampled burst period L
-sampled_fresh burst period c L h = go (leb 1 burst && (leb burst period && leb period 65535)) refl h
+pub sampled_fresh : (burst period : ℕ) (L : List Event) → IfOk (counters_for burst period) (λ c. sampled_by c L ≡ sampled burst period L)
+sampled_fresh burst period L =
+    ok_if (λ c. sampled_by c L ≡ sampled burst period L) (leb 1 burst && (leb burst period && leb period 65535)) _ _
+    (λ t.
+    let parts = and_parts (leb 1 burst) (leb burst period && leb period 65535) t in
+    let low = leb-true 1 burst parts.0 in
+    let high = leb-true burst period (and_parts (leb burst period) (leb period 65535) parts.1).0 in
+    sieved_like _ _ [] [] L (same (omega arith)))
   where
     -- the same test by numbers that are the same
-    fresh : (d : Counters) → d.burst ≡ burst → d.last + 1 ≡ period → d.next ≡ replicate 16 0 → sampled_by d L ≡ sampled burst period L
-    fresh d b p n =
-        sieved_like (lets d) (λ past e. cond (access e) (in_burst burst period (accesses_of e.thread past)) true) [] [] L
-        (λ M e.
-        let t = e.thread in
-        let none : get_or d.next t 0 + accesses_of t M ≡ accesses_of t M = ap (λ l. get_or l t 0 + accesses_of t M) n ∙ ap (λ k. k + accesses_of t M) (zeros 16 t) ∙ zero-add (accesses_of t M) in
-        λ i. cond (access e) (in_burst (b i) (p i) (none i)) true)
-
-    go : (b : Bool) → (leb 1 burst && (leb burst period && leb period 65535)) ≡ b → ◌≡◌ {A = Result Counters CallerFault} (Ok c) (cond b (Ok (record { burst = burst; last = period - 1; next = replicate 16 0 })) (Err Sampling)) → sampled_by c L ≡ sampled burst period L
-    go true t q =
-        let s : c ≡ record { burst = burst; last = period - 1; next = replicate 16 0 } = cc in
-        let parts = and_parts (leb 1 burst) (leb burst period && leb period 65535) t in
-        let low = leb-true 1 burst parts.0 in
-        let high = leb-true burst period (and_parts (leb burst period) (leb period 65535) parts.1).0 in
-        fresh c (ap (λ (k : Counters). k.burst) s) (ap (λ (k : Counters). k.last + 1) s ∙ omega arith) (ap (λ (k : Counters). k.next) s)
-    go false t q = absurd (false≢true (sym (ap is_ok q)))
+    same : period - 1 + 1 ≡ period → (past : List Event) (e : Event) → lets (record { burst = burst; last = period - 1; next = replicate 16 0 }) past e ≡ cond (access e) (in_burst burst period (accesses_of e.thread past)) true
+    same p past e =
+        let n = accesses_of e.thread past in
+        let none : get_or (replicate 16 0) e.thread 0 + n ≡ n = ap (λ k. k + n) (zeros 16 e.thread) ∙ zero-add n in
+        λ i. cond (access e) (in_burst burst (p i) (none i)) true
 
 pub numbered_by_thread : AccessesAreNumberedByThread
 numbered_by_thread b p past e =

@@ -1,5 +1,5 @@
 -- What a sampler lets through.
-use Rattle.std.specs.Prelude.{◌≡◌, ℕ, ◌+◌, ◌-◌, ◌%◌, Bool, true, cond, ◌&&◌, List, [], ◌∷◌, ◌++◌, replicate, Ok, Err, Result, ◌==◌, nat_le, nat_lt, slice_index, slice_set}
+use Rattle.std.specs.Prelude.{◌≡◌, ℕ, ◌+◌, ◌-◌, ◌%◌, Bool, true, cond, ◌&&◌, List, [], ◌∷◌, ◌++◌, replicate, Ok, Err, Result, ◌==◌, nat_le, nat_lt, slice_index}
 use Rattle.event.specs.declared.fault.CallerFault.{CallerFault}
 use Rattle.event.specs.declared.fault.CallerFault.TheVariants.{Sampling}
 use Rattle.event.specs.declared.record.Event.{Event}
@@ -38,11 +38,3 @@ lets c past e = cond (access e) (in_burst c.burst (c.last + 1) (slice_index c.ne
 
 abbrev pub sampled_by : Counters → List Event → List Event
 sampled_by c L = sieved (lets c) [] L
-
--- the counters after an event: that of its thread has gone up at an access, and is 0 again at the period
-abbrev pub counted : Counters → Event → Counters
-counted c e = record {
-  burst = c.burst;
-  last = c.last;
-  next = cond (access e) (slice_set c.next e.thread ((slice_index c.next e.thread + 1) % (c.last + 1))) c.next;
-}

@@ -8,6 +8,7 @@ pub mod picker;
 pub mod recorded;
 pub mod refusal;
 pub mod sampler;
+pub mod sieve;
 pub mod source;
 
 pub use filter::Filter;
@@ -15,4 +16,5 @@ pub use list::{EventList, ListEvents};
 pub use picker::Picker;
 pub use refusal::Refusal;
 pub use sampler::Sampler;
+pub use sieve::Sieve;
 pub use source::{Measured, Source};

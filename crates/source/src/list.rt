@@ -9,6 +9,7 @@ pub mod events;
 pub mod making;
 
 // The list's events stand at the table's front. What stands behind them is never read.
+// The table is the caller's, lent by the rule that tables are: so it is a slice with a length beside it, and no `Vec`.
 #[derive(Drop)]
 pub struct EventList<'a> {
     counts: Counts,

@@ -25,11 +25,6 @@ impl<'a> Source for Events<'a> {
 // Counted by going over the bytes once.
 impl<'a> Measured for Events<'a> {
     fn remaining(&self) -> usize {
-        let mut ahead = *self;
-        let mut n = 0;
-        while let Some(_) = <Events<'_> as Iterator>::next(&mut ahead) {
-            n += 1;
-        }
-        n
+        (*self).count()
     }
 }

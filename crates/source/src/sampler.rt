@@ -1,12 +1,11 @@
 // Lets through the first accesses of each thread's every period, and every event that is no access.
-ghost use Rattle.std.specs.Prelude.{◌≡◌, ◌<◌, true, [], length, IfOk, MatchResult, refl};
+ghost use Rattle.std.specs.Prelude.{◌≡◌, IfOk, MatchResult};
 ghost use Rattle.std.specs.Result.{result_map_both};
-ghost use Rattle.event.specs.Thins.{access};
-ghost use Rattle.event.proofs.Sieving.{stopped, sieved_sound, sieved_thins};
-ghost use Rattle.source.specs.Sampled.{AccessesAreNumberedByThread, counters_for, counted, lets, sampled, sampled_by};
+ghost use Rattle.event.proofs.Sieving.{stopped};
+ghost use Rattle.source.specs.Sampled.{AccessesAreNumberedByThread, counters_for, lets, sampled, sampled_by};
 
-use crate::filter::Filter;
 use crate::refusal::Refusal;
+use crate::sieve::{Passing, Sieve};
 use crate::source::Source;
 use event::{CallerFault, Counts, Event};
 
@@ -23,6 +22,7 @@ impl Counters {
     pub fn new(burst: u32, period: u32) -> Result<Counters, CallerFault>
         ensures { result ≡ counters_for burst period }
     {
+        // A test and casts, and no `try_from`: the limit is a number that the promise names, and not what a type can hold.
         if burst < 1 || burst > period || period > 65_535 {
             return Err(CallerFault::Sampling);
         }
@@ -32,14 +32,15 @@ impl Counters {
             next: [0; 16],
         })
     }
+}
+
+impl Passing for Counters {
+    ghost lets = { lets };
+
+    ghost stops = { λ p _ e. stopped e _ };
 
     // Numbers the event if it is an access.
-    fn let_through(&mut self, e: Event) -> bool
-        requires { e.thread < 16 }
-        ensures lets { result ≡ lets self.old [] e }
-        ensures after { self.new ≡ counted self.old e }
-        ensures has { access e ≡ true → e.thread < length self.old.next }
-    {
+    fn let_through(&mut self, e: Event) -> bool {
         if !e.is_access() {
             return true;
         }
@@ -51,60 +52,21 @@ impl Counters {
     }
 }
 
-#[derive(Drop)]
-pub struct Sampler<S> {
-    below: S,
-    counters: Counters,
-}
+// The source below without the accesses that are in no burst.
+pub type Sampler<S> = Sieve<S, Counters>;
 
 impl<S: Source> Sampler<S> {
     // Numbers the accesses that the source below hands out.
     pub fn new(below: S, burst: u32, period: u32) -> Result<Sampler<S>, Refusal<S>>
-        ensures answer { result_map_both (λ p. p.counters) (λ x. x.fault) result ≡ counters_for burst period }
+        ensures answer { result_map_both (λ p. p.passing) (λ x. x.fault) result ≡ counters_for burst period }
         ensures below { MatchResult result (λ p. p.below ≡ below) (λ x. x.below ≡ below) }
-        ensures list { IfOk result (λ p. sampled_by p.counters (S.Source.rest p.below) ≡ sampled burst period (S.Source.rest below)) }
+        ensures list { IfOk result (λ p. sampled_by p.passing (S.Source.rest p.below) ≡ sampled burst period (S.Source.rest below)) }
     {
-        match Counters::new(burst, period) {
-            Ok(counters) => Ok(Sampler { below, counters }),
-            Err(fault) => Err(Refusal { below, fault }),
-        }
+        Sieve::over(below, Counters::new(burst, period))
     }
-}
-
-impl<S: Source> Source for Sampler<S> {
-    ghost counts = { λ s. S.Source.counts s.below };
-
-    ghost rest = { λ s. sampled_by s.counters (S.Source.rest s.below) };
-
-    ghost sound = { λ s. sieved_sound (S.Source.counts s.below) (lets s.counters) (λ _ e. stopped e _) [] (S.Source.rest s.below) (S.Source.sound s.below) };
-
-    fn counts(&self) -> Counts {
-        self.below.counts()
-    }
-
-    fn next(&mut self) -> Option<Event> {
-        while let Some(e) = self.below.next() {
-            if self.counters.let_through(e) {
-                return Some(e);
-            }
-        }
-        None
-    }
-}
-
-impl<S: Source> Filter for Sampler<S> {
-    type Below = S;
-
-    ghost under = { λ s. s.below };
-
-    ghost thins = { λ s. sieved_thins (lets s.counters) (λ _ e. stopped e _) [] (S.Source.rest s.below) };
-
-    ghost same = { λ s. refl };
 }
 
 // Which accesses a sampler's list has, by the events before each of them.
-pub fn accesses_are_numbered_by_thread() -> u8
+pub fn accesses_are_numbered_by_thread()
     ensures { AccessesAreNumberedByThread }
-{
-    0
-}
+{}

@@ -20,6 +20,7 @@ pub trait Source {
         ensures { result ≡ counts self.now };
 
     // The first of the events still to come, which is then gone.
+    // It is no `Iterator`'s `next`: its clauses say for each source what is handed out, where an `Iterator` would say it by a law that each user cites.
     fn next(&mut self) -> Option<Event>
         ensures hands { Handed (rest self.old) (rest self.new) result }
         ensures keeps { counts self.new ≡ counts self.old };

@@ -1,11 +1,12 @@
 -- What an event does to tables of stamps is what it does to the stamps of the threads and objects that the counts have.
-use Rattle.std.specs.Prelude.{◌≡◌, ℕ, zero, suc, ◌<◌, ◌≤◌, min, Bool, true, false, cond, List, [], ◌∷◌, ◌++◌, length, get_or, drop, replicate, Some, None, Option, ◌==◌, nat_lt, slice_index_or, slice_set}
+use Rattle.std.specs.Prelude.{◌≡◌, ℕ, ◌<◌, ◌≤◌, Bool, true, false, cond, List, [], length, get_or, Some, None, Option, ◌==◌, nat_lt, slice_index_or, slice_set}
 use Rattle.std.proofs.Math.Path.{refl, sym, ap}
-use Rattle.std.proofs.Common.{ap₂, ◌∙◌, arith, length-append, length-drop, get_or-set_same, get_or-set_other}
+use Rattle.std.proofs.Common.{ap₂, ◌∙◌, arith, get_or-set_same, get_or-set_other}
 use borrow.Author.Tests.{eqb-true, eqb-false, lt-ltb}
-use Rattle.std.proofs.lemmas.List.{get_or_default, get_or_append_left, get_or-replicate, length-replicate}
+use Rattle.std.proofs.lemmas.List.{get_or_default}
 use Rattle.std.proofs.lemmas.Bool.{cond-true}
 use Rattle.std.specs.Option.{option_map}
+use Rattle.event.proofs.Clearing.{cleared_at}
 use Rattle.event.specs.declared.counts.Counts.{Counts}
 use Rattle.event.specs.declared.object.Object.{Object}
 use Rattle.event.specs.declared.record.Event.{Event}
@@ -16,31 +17,8 @@ use Rattle.order.proofs.Objects.{same_object_true, same_object_eq}
 use Rattle.order.proofs.Stamping.{sums_none, sums_push, sums_same}
 use Rattle.stamp.specs.Slots.{slot, slots, Declares}
 use Rattle.stamp.specs.Tables.{cleared, stamped, Means, Adds, joined_in, joined_into, stamp_after, threads_after, objects_after}
-use Rattle.stamp.specs.Slotting.{slot_once, slot_within, in_range_means, acquired_declared, released_declared}
-
--- ---- clearing
-
-pub clear_more : {S : Type 0} (i : ℕ) (xs : List S) (x : S) → i < length xs → slice_set (replicate i x ++ drop i xs) i x ≡ replicate (suc i) x ++ drop (suc i) xs
-clear_more zero [] x h = absurd (omega arith)
-clear_more zero (y ∷ xs) x h = refl
-clear_more (suc i) [] x h = absurd (omega arith)
-clear_more (suc i) (y ∷ xs) x h = ap (λ l. x ∷ l) (clear_more i xs x (omega arith))
-
-pub drop_min : {S : Type 0} (n : ℕ) (xs : List S) → drop (min n (length xs)) xs ≡ drop n xs
-drop_min zero xs = let none : min 0 (length xs) ≡ 0 = omega arith in ap (λ k. drop k xs) none
-drop_min {S} (suc n) [] = let none : min (suc n) 0 ≡ 0 = omega arith in ap (λ k. drop {A = S} k []) none
-drop_min (suc n) (y ∷ xs) = let one : min (suc n) (suc (length xs)) ≡ suc (min n (length xs)) = omega arith in ap (λ k. drop k (y ∷ xs)) one ∙ drop_min n xs
-
-cleared_at : {S : Type 0} (n : ℕ) (x : S) (xs : List S) (k : ℕ) → k < n → n ≤ length xs → slice_index_or (cleared n x xs) k x ≡ x
-cleared_at n x xs k lt le =
-    get_or_append_left (replicate (min n (length xs)) x) (drop n xs) x k (omega (arith, length-replicate (min n (length xs)) x))
-    ∙ get_or-replicate (min n (length xs)) k x x (omega arith)
-
--- past its end a table is not written
-pub set_past : {S : Type 0} (xs : List S) (k : ℕ) (x : S) → length xs ≤ k → slice_set xs k x ≡ xs
-set_past [] k x h = refl
-set_past (y ∷ xs) zero x h = absurd (omega arith)
-set_past (y ∷ xs) (suc k) x h = ap (λ l. y ∷ l) (set_past xs k x (omega arith))
+use Rattle.event.proofs.Offering.{in_range_parts}
+use Rattle.stamp.specs.Slotting.{slot_once, slot_within, acquired_declared, released_declared}
 
 module _ {S : Type 0} {below : S → S → Type 0} {join : S → S → S} {least : S} (laws : Laws below join least) (c : Counts) (ts os : List S) (threads_fit : c.threads ≤ length ts) (objects_fit : slots c ≤ length os) where
   pub means_none : Means below least c [] (cleared c.threads least ts) (cleared (slots c) least os)
@@ -102,12 +80,4 @@ module _ {S : Type 0} {below : S → S → Type 0} {join : S → S → S} {least
         sums_same laws
         thread_same
         (joined_into_same (released e) (released_declared c e ranged))
-        (sums_push laws xs old deed rising (in_range_means c e ranged).0 (acquired_declared c e ranged) h)
-
--- the stamp that the parts give, one after another
-pub stamp_parts : {S : Type 0} (join : S → S → S) (least : S) (c : Counts) (ts os : List S) (e : Event) (v before got mine : S) (t : ℕ) (a : Option ℕ) → t ≡ e.thread → before ≡ slice_index_or ts t least → a ≡ option_map (slot c) (acquired e) → got ≡ joined_in join os a before → mine ≡ join got v → mine ≡ stamp_after join least c ts os e v
-stamp_parts join least c ts os e v before got mine t a te be ae ge ne =
-    ne ∙ ap (λ s. join s v) (ge ∙ ap₂ (joined_in join os) ae (be ∙ ap (λ k. get_or ts k least) te))
-
-pub length_cleared : {S : Type 0} (n : ℕ) (x : S) (xs : List S) → length (cleared n x xs) ≡ length xs
-length_cleared n x xs = omega (arith, length-append (replicate (min n (length xs)) x) (drop n xs), length-replicate (min n (length xs)) x, length-drop n xs)
+        (sums_push laws xs old deed rising (in_range_parts c e ranged).0 (acquired_declared c e ranged) h)

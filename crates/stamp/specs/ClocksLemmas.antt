@@ -2,11 +2,10 @@
 use Rattle.std.specs.Prelude.{◌≡◌, ℕ, zero, suc, ◌+◌, ◌-◌, ◌^◌, ◌<◌, ◌≤◌, min, max, List, [], ◌∷◌, length, replicate, ◌≢◌, slice_index, slice_set, refl}
 use Rattle.std.proofs.Common.{sym, subst, ◌∙◌, ⊎_elim, arith, length-set, ext_get_or}
 use mathlib.Core.HLevel.{is_prop→PathP}
-use mathlib.Core.List.Memᴰ
 use mathlib.Core.List.{Memᴰ}
 use Rattle.std.proofs.Math.Nat.{ℕ_set}
 use Rattle.std.proofs.Math.Seq.{get_or-set_same, get_or-set_other}
-use Rattle.std.proofs.lemmas.List.{get_or_past, length-replicate}
+use Rattle.std.proofs.lemmas.List.{length-replicate}
 use Rattle.std.proofs.lemmas.Bool.{cases_eq}
 use Rattle.std.specs.List.{AllByRecursion}
 use Rattle.event.specs.declared.counts.Counts.{Counts}
@@ -14,13 +13,13 @@ use Rattle.event.specs.declared.record.Event.{Event}
 use Rattle.event.specs.Entries.{Reaches, IsEntry}
 use Rattle.event.specs.Order.{◌∈◌}
 use Rattle.event.specs.Thins.{Placed, Sound}
+use Rattle.event.proofs.Members.{every_in}
 use Rattle.order.specs.Stamps.{Laws, Deed, deeds, Behind, Bound}
 use Rattle.order.proofs.Behind.{behind_iff}
 use Rattle.order.proofs.Chaining.{chain_first}
 use Rattle.order.proofs.Deeds.{deed, deed_in, deed_of}
 use Rattle.order.proofs.Entries.{is_entry}
 use Rattle.order.proofs.Joins.{laws_of_bounds}
-use Rattle.stamp.specs.Carrying.{set_past}
 use Rattle.stamp.specs.declared.clock.Clock.{Clock}
 use Rattle.stamp.specs.Clocks.{NoLater, maxes, later, zeros, clock_of, tick, TellsEntry}
 
@@ -63,14 +62,6 @@ clock_laws =
 pub is_later : (r x y : Clock) → ((k : ℕ) → k < 16 → at r k ≡ max (at x k) (at y k)) → r ≡ later x y
 is_later r x y h = same_entries r (later x y) (λ k lt. omega (arith, h k lt, at_later x y k))
 
--- past its entries a clock reads 0
-pub at_past : (x : Clock) (k : ℕ) → 16 ≤ k → 0 ≡ at x k
-at_past x k h = sym (get_or_past x.entries k 0 (omega (arith, x.wide)))
-
--- an event of a thread past the sixteenth contributes nothing
-pub tick_past : (e : Event) → 16 ≤ e.thread → replicate 16 0 ≡ (tick e).entries
-tick_past e h = sym (set_past (replicate 16 0) e.thread _ (omega (arith, length-replicate {A = ℕ} 16 0)))
-
 tick_own : (e : Event) → e.thread < 16 → e.place ≤ 999999 → at (tick e) e.thread ≡ suc e.place
 tick_own e lt le = get_or-set_same (replicate 16 0) e.thread (min (e.place + 1) (2 ^ 32 - 1)) 0 (omega (arith, length-replicate {A = ℕ} 16 0)) ∙ omega arith
 
@@ -78,8 +69,7 @@ tick_other : (e : Event) (k : ℕ) → (k ≢ e.thread) → at (tick e) k ≡ 0
 tick_other e k ne = get_or-set_other (replicate 16 0) e.thread k (min (e.place + 1) (2 ^ 32 - 1)) 0 ne ∙ get_or_zeros 16 k
 
 pub placed_in : (c : Counts) (L : List Event) → AllByRecursion (Placed c) L → {e : Event} → e ∈ L → Placed c e
-placed_in c [] h m = absurd (Memᴰ.not-nil m)
-placed_in c (x ∷ L) h m = ⊎_elim (λ s. subst (Placed c) (sym s) h.0) (λ n. placed_in c L h.1 n) (Memᴰ.cases_cons m)
+placed_in c L h m = every_in (Placed c) L h m
 
 -- The clock bounds each tick behind t, and so its number for u bounds the places of u's events there. It is below each other clock that
 -- bounds the ticks: so is the one with another such number for u.

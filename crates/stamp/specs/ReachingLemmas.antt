@@ -6,6 +6,7 @@ use Rattle.std.proofs.lemmas.Bool.{cases_eq, cond-true, eqb-false}
 use Rattle.event.specs.declared.record.Event.{Event}
 use Rattle.event.specs.Order.{◌∈◌}
 use Rattle.event.specs.Thins.{Rising}
+use Rattle.event.proofs.Members.{every_in}
 use Rattle.order.specs.Stamps.{Laws, Deed, deeds, Behind, Bound}
 use Rattle.order.proofs.Behind.{behind_iff}
 use Rattle.order.proofs.Chaining.{chain_first}
@@ -63,10 +64,6 @@ only_other t u ne h = go (nat_lt t 16) h
     go true k = omega (arith, k, digit_other t u ne)
     go false k = omega (arith, k, digit_zero u)
 
-few_in : (L : List Event) → Few L → {e : Event} → e ∈ L → e.thread < 16
-few_in [] h m = absurd (Memᴰ.not-nil m)
-few_in (x ∷ L) h m = ⊎_elim (λ s. omega (arith, h.0, ap (λ (v : Event). v.thread) s)) (λ n. few_in L h.1 n) (Memᴰ.cases_cons m)
-
 -- the threads of the list but u
 others : ℕ → List Event → Reach
 others u [] = nobody
@@ -105,7 +102,7 @@ module _ (s : Reach) (L : List Event) (t : ℕ) (up : Rising L) (few : Few L) (b
   felt_has u f =
       let e = f.event in
       let m = chain_first f.behind.chain in
-      bound.upper (deed visit e) (deed_in visit L m) f.behind u (subst (λ v. Has (only e.thread) v) f.of (only_own e.thread (few_in L few m)))
+      bound.upper (deed visit e) (deed_in visit L m) f.behind u (subst (λ v. Has (only e.thread) v) f.of (only_own e.thread (every_in (λ (v : Event). v.thread < 16) L few m)))
 
   has_felt : (u : ℕ) → Has s u → Felt L t u
   has_felt u h =

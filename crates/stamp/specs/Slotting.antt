@@ -1,7 +1,7 @@
 -- The slots of the objects that the counts have are apart, and within a table that is large enough.
 use Rattle.std.specs.Prelude.{◌≡◌, ℕ, ◌<◌, ◌≤◌, Bool, true, false, cond, Some, None, Ok, Err, Option, Result, nat_lt, refl}
 use Rattle.std.proofs.Common.{sym, ap, subst, arith}
-use borrow.Author.Tests.{ltb-true, ltb-false, clash}
+use borrow.Author.Tests.{ltb-false}
 use Rattle.event.specs.declared.counts.Counts.{Counts}
 use Rattle.event.specs.declared.fault.CallerFault.{CallerFault}
 use Rattle.event.specs.declared.fault.CallerFault.TheVariants.{Range}
@@ -14,6 +14,7 @@ use Rattle.event.specs.Objects.{acquired_by, released_by}
 use Rattle.event.specs.Order.{Acquires, Releases}
 use Rattle.event.specs.Ranges.{limit, in_range}
 use Rattle.event.specs.Thins.{Placed}
+use Rattle.event.proofs.Offering.{in_range_parts}
 use Rattle.stamp.specs.Slots.{slot, slots, Declares, lacking, unless_lacking, starting, handing}
 
 pub slot_once : (c : Counts) (a b : Object) → Declares c a → Declares c b → slot c a ≡ slot c b → a ≡ b
@@ -32,69 +33,55 @@ slot_within c (Declared n) p = omega (arith, c.limits)
 slot_within c (Start t) p = omega arith
 slot_within c (Finish t) p = omega arith
 
-none_is : {o : Object} {A : Type 0} → ◌≡◌ {A = Option Object} None (Some o) → A
-none_is e = absurd (let z : ◌≡◌ {A = ℕ} 0 1 = cc in omega arith)
-
 some_is : (c : Counts) (p o : Object) → Declares c p → ◌≡◌ {A = Option Object} (Some p) (Some o) → Declares c o
 some_is c p o d e = let s : p ≡ o = cc in subst (Declares c) s d
 
 -- what an event in range acquires and releases is an object that the counts have
 module _ (c : Counts) (t n : ℕ) (own : t < c.threads) (o : Object) where
   acquires_declared : (l : Letter) → n < limit c l → acquired_by l t n ≡ Some o → Declares c o
-  acquires_declared Read h e = none_is e
-  acquires_declared Write h e = none_is e
+  acquires_declared Read h e = cc
+  acquires_declared Write h e = cc
   acquires_declared Acquire h e = some_is c (Declared n) o h e
-  acquires_declared Release h e = none_is e
-  acquires_declared Fork h e = none_is e
+  acquires_declared Release h e = cc
+  acquires_declared Fork h e = cc
   acquires_declared Join h e = some_is c (Finish n) o h e
   acquires_declared Begin h e = some_is c (Start t) o own e
-  acquires_declared End h e = none_is e
-  acquires_declared Strong h e = none_is e
-  acquires_declared Weak h e = none_is e
-  acquires_declared Downgrade h e = none_is e
-  acquires_declared Stop h e = none_is e
+  acquires_declared End h e = cc
+  acquires_declared Strong h e = cc
+  acquires_declared Weak h e = cc
+  acquires_declared Downgrade h e = cc
+  acquires_declared Stop h e = cc
 
   releases_declared : (l : Letter) → n < limit c l → released_by l t n ≡ Some o → Declares c o
-  releases_declared Read h e = none_is e
-  releases_declared Write h e = none_is e
-  releases_declared Acquire h e = none_is e
+  releases_declared Read h e = cc
+  releases_declared Write h e = cc
+  releases_declared Acquire h e = cc
   releases_declared Release h e = some_is c (Declared n) o h e
   releases_declared Fork h e = some_is c (Start n) o h e
-  releases_declared Join h e = none_is e
-  releases_declared Begin h e = none_is e
+  releases_declared Join h e = cc
+  releases_declared Begin h e = cc
   releases_declared End h e = some_is c (Finish t) o own e
-  releases_declared Strong h e = none_is e
-  releases_declared Weak h e = none_is e
-  releases_declared Downgrade h e = none_is e
-  releases_declared Stop h e = none_is e
-
-pub in_range_means : (c : Counts) (e : Event) → in_range c e ≡ true → (e.thread < c.threads) × (e.number < limit c e.letter)
-in_range_means c e h = go (nat_lt e.thread c.threads) refl h
-  where
-    go : (b : Bool) → nat_lt e.thread c.threads ≡ b → cond b (nat_lt e.number (limit c e.letter)) false ≡ true → (e.thread < c.threads) × (e.number < limit c e.letter)
-    go true p q = (ltb-true _ _ p, ltb-true _ _ q)
-    go false p q = absurd (clash q)
+  releases_declared Strong h e = cc
+  releases_declared Weak h e = cc
+  releases_declared Downgrade h e = cc
+  releases_declared Stop h e = cc
 
 pub acquired_declared : (c : Counts) (e : Event) → in_range c e ≡ true → (o : Object) → Acquires e o → Declares c o
-acquired_declared c e h o a = let r = in_range_means c e h in acquires_declared c e.thread e.number r.0 o e.letter r.1 a
+acquired_declared c e h o a = let r = in_range_parts c e h in acquires_declared c e.thread e.number r.0 o e.letter r.1 a
 
 pub released_declared : (c : Counts) (e : Event) → in_range c e ≡ true → (o : Object) → Releases e o → Declares c o
-released_declared c e h o a = let r = in_range_means c e h in releases_declared c e.thread e.number r.0 o e.letter r.1 a
+released_declared c e h o a = let r = in_range_parts c e h in releases_declared c e.thread e.number r.0 o e.letter r.1 a
 
 abbrev good : Result (Unit {0}) CallerFault
 good = Ok tt
-
--- an answer that was refused is not the good one
-refusal : {A : Type 0} {f : CallerFault} → good ≡ Err f → A
-refusal e = absurd (let z : ◌≡◌ {A = ℕ} 0 1 = cc in omega arith)
 
 -- a start is taken where both tables are large enough
 pub started_fits : (c : Counts) (m n : ℕ) → Ok tt ≡ starting c m n → (c.threads ≤ m) × (slots c ≤ n)
 started_fits c m n h = go (nat_lt m c.threads) refl (nat_lt n (slots c)) refl h
   where
     go : (a : Bool) → nat_lt m c.threads ≡ a → (b : Bool) → nat_lt n (slots c) ≡ b → good ≡ unless_lacking (cond a (Some c.threads) (cond b (Some (slots c)) None)) (Ok tt) → (c.threads ≤ m) × (slots c ≤ n)
-    go true p b q e = refusal e
-    go false p true q e = refusal e
+    go true p b q e = cc
+    go false p true q e = cc
     go false p false q e = (ltb-false _ _ p, ltb-false _ _ q)
 
 -- an event is taken where the tables are large enough and it is in range
@@ -106,8 +93,8 @@ handed_fits c m n e h =
   where
     go : (o : Option ℕ) → lacking c m n ≡ o → (b : Bool) → in_range c e ≡ b → good ≡ unless_lacking o (cond b (Ok tt) (Err (Range e.place))) → (good ≡ starting c m n) × (in_range c e ≡ true)
     go None p true q s = (sym (ap (λ o. unless_lacking o (Ok tt)) p), q)
-    go None p false q s = refusal s
-    go (Some k) p b q s = refusal s
+    go None p false q s = cc
+    go (Some k) p b q s = cc
 
 -- the same of an event that stands in a sound list
 pub placed_acquired : (c : Counts) (e : Event) → Placed c e → (o : Object) → Acquires e o → Declares c o

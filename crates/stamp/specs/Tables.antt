@@ -1,16 +1,13 @@
 -- Tables of stamps: what they mean, and what an event does to them.
-use Rattle.std.specs.Prelude.{ℕ, ◌<◌, min, cond, List, [], ◌∷◌, ◌++◌, length, drop, replicate, Some, None, Option, nat_lt, slice_index_or, slice_set}
+use Rattle.std.specs.Prelude.{ℕ, ◌<◌, cond, List, [], ◌∷◌, ◌++◌, length, Some, None, Option, nat_lt, slice_index_or, slice_set}
 use Rattle.std.specs.Option.{option_map}
 use Rattle.event.specs.declared.counts.Counts.{Counts}
 use Rattle.event.specs.declared.record.Event.{Event}
+pub use Rattle.event.specs.Tables.{cleared}
 use Rattle.event.specs.Objects.{acquired, released}
 use Rattle.event.specs.Thins.{Rising}
 use Rattle.order.specs.Stamps.{Deed, State, Sums, events}
 use Rattle.stamp.specs.Slots.{slot, Declares}
-
--- the first n entries are x, the others stay
-abbrev pub cleared : {S : Type 0} → ℕ → S → List S → List S
-cleared n x xs = replicate (min n (length xs)) x ++ drop n xs
 
 -- the stamp of each thread and of each object, as the tables have them
 abbrev pub stamped : {S : Type 0} → S → Counts → List S → List S → State S

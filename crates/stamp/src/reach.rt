@@ -15,15 +15,11 @@ impl Stamp for Reach {
 
     ghost joined = { union };
 
-    ghost least = { nobody };
+    ghost LEAST = { nobody };
 
     const LEAST: Reach = Reach { members: 0 };
 
     ghost lawful = { reach_laws };
-
-    fn lowest() -> Reach {
-        Reach::LEAST
-    }
 
     fn join(self, other: Reach) -> Reach {
         Reach {

@@ -19,10 +19,7 @@ pub fn slot(counts: Counts, object: Object) -> usize
 pub fn slot_of(counts: Counts, object: Option<Object>) -> Option<usize>
     ensures { result ≡ option_map (slot counts) object }
 {
-    match object {
-        Some(o) => Some(slot(counts, o)),
-        None => None,
-    }
+    object.map(|o| slot(counts, o))
 }
 
 // How many objects the counts have: the declared ones, and a start and an end for each thread.

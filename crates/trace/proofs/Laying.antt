@@ -1,5 +1,5 @@
 -- The entries that a section which was read gives again, with their offsets.
-use Rattle.std.proofs.Common.{◌≡◌, ℕ, zero, suc, ◌+◌, ◌-◌, ◌≤◌, max, List, [], ◌∷◌, map, length, Ok, Err, Result, sym, refl, ap, ◌∙◌, subst, arith, length-append}
+use Rattle.std.proofs.Common.{◌≡◌, ℕ, zero, suc, true, ◌+◌, ◌-◌, ◌≤◌, List, [], ◌∷◌, map, length, Ok, Err, Result, sym, refl, ap, ◌∙◌, subst, arith, length-append}
 use Rattle.format.specs.declared.fault.SectionFault.{SectionFault}
 use Rattle.format.specs.declared.kinds.SectionKind.{SectionKind}
 use Rattle.format.specs.declared.fault.SectionFault.TheVariants.{Bytes, Count}
@@ -8,7 +8,7 @@ use Rattle.format.specs.Names.{within}
 use Rattle.format.specs.Items.{Item, item_from, items_from, cons_item, after, laid_next, laid_from, section_body, section_from}
 use Rattle.format.specs.Codes.{code_item, items_laid_out}
 use Rattle.format.proofs.Steps.{then_ok, map_ok_parts, ok_ok, ok_lift_then, ok_if}
-use Rattle.format.proofs.Inverse.{within_from, two_size, item_sound, items_sound}
+use Rattle.format.proofs.Inverse.{two_size, item_sound, items_sound}
 
 laid_items : (p : ℕ) (is : List Item) → map (λ y. y.1) (items_laid_out p is) ≡ is
 laid_items p [] = refl
@@ -61,24 +61,20 @@ pub record Read (k : SectionKind) (low high t : ℕ) (bs rest : List ℕ) (laid 
   pub at : laid ≡ items_laid_out (here t bs + 2) (map (λ y. y.1) laid)
   pub count : length (map (λ y. y.1) laid) ≡ n
 
-section_whole : (k : SectionKind) (low high t n : ℕ) (bs more rest : List ℕ) → length bs ≤ t → low ≤ n → n ≤ high → Ok (n, more) ≡ two_from (here t bs) bs → Ok rest ≡ after (items_from k t n more) → Read k low high t bs rest (laid_from k t n more) n
-section_whole k low high t n bs more rest le lo hi two skip =
+section_whole : (k : SectionKind) (low high t n : ℕ) (bs more rest : List ℕ) → length bs ≤ t → within low high n ≡ true → Ok (n, more) ≡ two_from (here t bs) bs → Ok rest ≡ after (items_from k t n more) → Read k low high t bs rest (laid_from k t n more) n
+section_whole k low high t n bs more rest le w two skip =
     let size = two_size (here t bs) bs (n, more) (sym two) in
     let s = skipped k t n more rest (omega arith) skip in
     let next : t - length more ≡ t - length bs + 2 = omega arith in
     record {
-      value = sym (ok_lift_then Bytes (section_body k low high t (here t bs)) (sym two) ∙ ok_if (within low high n) (items_from k t n more) (Count (here t bs)) (within_from low high n lo hi) ∙ s.read);
+      value = sym (ok_lift_then Bytes (section_body k low high t (here t bs)) (sym two) ∙ ok_if (within low high n) (items_from k t n more) (Count (here t bs)) w ∙ s.read);
       at = s.laid ∙ ap (λ p. items_laid_out p (map (λ y. y.1) (laid_from k t n more))) next;
       count = s.count;
     }
 
--- the same of the section as it is kept, with the bytes from its first entry on and the file's length
-pub section_read : (k : SectionKind) (low high t tot n : ℕ) (bs more bytes rest : List ℕ) → bytes ≡ more → tot ≡ t → length bs ≤ t → low ≤ n → n ≤ high → Ok (n, more) ≡ two_from (here t bs) bs → Ok rest ≡ after (items_from k t n more) → Read k low high t bs rest (laid_from k (max tot (length bytes)) n bytes) n
-section_read k low high t tot n bs more bytes rest b e le lo hi two skip =
-    let size = two_size (here t bs) bs (n, more) (sym two) in
-    let same = ap length b in
-    let m : t ≡ max tot (length bytes) = omega arith in
-    subst (λ (z : List (ℕ × Item)). Read k low high t bs rest z n) (λ i. laid_from k (m i) n (sym b i)) (section_whole k low high t n bs more rest le lo hi two skip)
+-- the same where the reader kept the file's length
+pub section_read : (k : SectionKind) (low high t tot n : ℕ) (bs more rest : List ℕ) → tot ≡ t → length bs ≤ t → within low high n ≡ true → Ok (n, more) ≡ two_from (here t bs) bs → Ok rest ≡ after (items_from k tot n more) → Read k low high t bs rest (laid_from k tot n more) n
+section_read k low high t tot n bs more rest e le w two skip = subst (λ (z : ℕ). Ok rest ≡ after (items_from k z n more) → Read k low high t bs rest (laid_from k z n more) n) (sym e) (section_whole k low high t n bs more rest le w two) skip
 
 few_next : (k : SectionKind) (p n : ℕ) (f : List ℕ → List (ℕ × Item)) (r : Result (Item × List ℕ) SectionFault) → ((bs : List ℕ) → length (f bs) ≤ n) → length (laid_next p r f) ≤ suc n
 few_next k p n f (Ok x) h = omega (arith, h x.1)

@@ -1,6 +1,6 @@
 -- The events of a trace that are still to come are sound: their places rise from that of the next one on, none is above 999,999, and threads and numbers are in
 -- range.
-use Rattle.std.proofs.Common.{◌≡◌, ℕ, zero, suc, ◌+◌, ◌-◌, ◌≤◌, Bool, true, false, cond, leb, List, [], ◌∷◌, length, drop, Ok, Err, Result, refl, arith}
+use Rattle.std.proofs.Common.{◌≡◌, ℕ, zero, suc, ◌+◌, ◌-◌, ◌/◌, ◌≤◌, Bool, true, false, cond, leb, List, [], ◌∷◌, length, drop, Ok, Err, Result, refl, arith}
 use Rattle.std.specs.List.{AllByRecursion}
 use Rattle.event.specs.declared.counts.Counts.{Counts}
 use Rattle.event.specs.declared.record.Event.{Event}
@@ -49,7 +49,7 @@ got_from c i (suc n) bs h = either c i _ (leb 6 (length bs)) (one_more c i bs _ 
 
 pub coming_sound : (s : Events) → Sound s.counts (coming s)
 coming_sound s =
-    let f = got_from s.counts s.place (s.count - s.place) s.rest.now (omega (arith, s.few)) in
+    let f = got_from s.counts s.place (length s.rest.now / 6) s.rest.now (omega (arith, s.few)) in
     record { rising = f.rising; placed = f.placed }
 
 few_events : (n : ℕ) (L : List Event) (r : Result Event EventFault) (b : Bool) → length L ≤ n → length (cond b (got_event r L) []) ≤ suc n
@@ -62,4 +62,4 @@ got_few c i zero bs = omega arith
 got_few c i (suc n) bs = few_events n (got_events c (i + 1) n (drop 6 bs)) (read_event c i bs) (leb 6 (length bs)) (got_few c (i + 1) n (drop 6 bs))
 
 pub coming_few : (s : Events) → length (coming s) ≤ 1000000
-coming_few s = omega (arith, got_few s.counts s.place (s.count - s.place) s.rest.now, s.few)
+coming_few s = omega (arith, got_few s.counts s.place (length s.rest.now / 6) s.rest.now, s.few)

@@ -1,5 +1,5 @@
 -- What a trace that borrows from the file stands for.
-use Rattle.std.specs.Prelude.{◌≡◌, ◌+◌, min, length}
+use Rattle.std.specs.Prelude.{◌≡◌, ℕ, ◌+◌, ◌/◌, length}
 use Rattle.event.specs.declared.counts.Counts.{Counts}
 use Rattle.event.specs.Ranges.{nearest}
 use Rattle.format.specs.Codes.{items_laid_out}
@@ -9,9 +9,13 @@ use Rattle.format.specs.Trace.{Contents, contents}
 use Rattle.trace.specs.declared.trace.Trace.{Trace}
 use Rattle.trace.specs.Section.{items_in, laid_in}
 
+-- how many events there are
+abbrev pub count_in : Trace → ℕ
+count_in t = length t.events.now / 6
+
 -- its sections and the bytes of its events
 abbrev pub layout_of : Trace → Layout
-layout_of t = laid_as (items_in t.threads) (items_in t.objects) (items_in t.variables) (t.events.count, t.events.bytes.now)
+layout_of t = laid_as (items_in t.threads) (items_in t.objects) (items_in t.variables) (count_in t, t.events.now)
 
 -- Where the entries of a trace's file stand: three bytes, then each section's count of two bytes and its entries one after another.
 pub record Laid (t : Trace) : Type 0 where
@@ -29,11 +33,11 @@ counts_in t = nearest t.threads.count t.objects.count t.variables.count
 abbrev pub contents_of : Trace → Contents
 contents_of t =
     contents (items_in t.threads) (items_in t.objects) (items_in t.variables)
-    (got_events (counts_in t) 0 (min t.events.count 1000000) t.events.bytes.now)
+    (got_events (counts_in t) 0 (count_in t) t.events.now)
 
 -- the counts that a trace answers are those of its contents
 pub record Counted (t : Trace) : Type 0 where
   pub threads : (counts_in t).threads ≡ length (contents_of t).threads
   pub objects : (counts_in t).objects ≡ length (contents_of t).objects
   pub variables : (counts_in t).variables ≡ length (contents_of t).variables
-  pub events : t.events.count ≡ length (contents_of t).events
+  pub events : count_in t ≡ length (contents_of t).events

@@ -4,6 +4,7 @@ ghost use Rattle.format.specs.Parse.{map_ok, here, byte_from, take_from, two_fro
 
 use format::fault::ByteFault;
 
+// `total` is the length of the whole file. Each call that reads on says that it stays: an invariant speaks of one moment, and cannot.
 #[derive(Clone, Copy)]
 pub struct Reader<'a> {
     rest: &'a [u8],
@@ -16,10 +17,7 @@ impl<'a> Reader<'a> {
         ensures rest { result.rest.now ≡ src.now }
         ensures total { result.total ≡ length src.now }
     {
-        Reader {
-            rest: src,
-            total: src.len(),
-        }
+        Reader::resume(src, src.len())
     }
 
     // At the bytes that remain of a file of `total` bytes.
@@ -52,54 +50,50 @@ impl<'a> Reader<'a> {
         self.total
     }
 
+    // The next N bytes, of the item that begins at `start`.
+    pub(crate) fn front<const N: usize>(&mut self, start: usize) -> Result<[u8; N], ByteFault>
+        ensures value { map_ok (λ x. (x, self.new.rest.now)) result ≡ take_from start N self.old.rest.now }
+        ensures total { self.new.total ≡ self.old.total }
+    {
+        let (front, after) = self
+            .rest
+            .split_first_chunk::<N>()
+            .ok_or(ByteFault::Ends { offset: start })?;
+        self.rest = after;
+        Ok(*front)
+    }
+
     pub fn byte(&mut self, start: usize) -> Result<u8, ByteFault>
         ensures value { map_ok (λ x. (x, self.new.rest.now)) result ≡ byte_from start self.old.rest.now }
         ensures total { self.new.total ≡ self.old.total }
     {
-        match self.rest {
-            [b, after @ ..] => {
-                self.rest = after;
-                Ok(*b)
-            }
-            [] => Err(ByteFault::Ends { offset: start }),
-        }
-    }
-
-    pub fn take(&mut self, start: usize, n: usize) -> Result<&'a [u8], ByteFault>
-        ensures value { map_ok (λ x. (x.now, self.new.rest.now)) result ≡ take_from start n self.old.rest.now }
-        ensures total { self.new.total ≡ self.old.total }
-    {
-        if self.rest.len() < n {
-            return Err(ByteFault::Ends { offset: start });
-        }
-        let (front, after) = self.rest.split_at(n);
-        self.rest = after;
-        Ok(front)
+        let [b] = self.front::<1>(start)?;
+        Ok(b)
     }
 
     pub fn two(&mut self, start: usize) -> Result<u16, ByteFault>
         ensures value { map_ok (λ x. (x, self.new.rest.now)) result ≡ two_from start self.old.rest.now }
         ensures total { self.new.total ≡ self.old.total }
     {
-        match self.rest {
-            [a, b, after @ ..] => {
-                self.rest = after;
-                Ok(256 * *a as u16 + *b as u16)
-            }
-            _ => Err(ByteFault::Ends { offset: start }),
-        }
+        Ok(u16::from_be_bytes(self.front(start)?))
     }
 
     pub fn four(&mut self, start: usize) -> Result<u32, ByteFault>
         ensures value { map_ok (λ x. (x, self.new.rest.now)) result ≡ four_from start self.old.rest.now }
         ensures total { self.new.total ≡ self.old.total }
     {
-        match self.rest {
-            [a, b, c, d, after @ ..] => {
-                self.rest = after;
-                Ok(16777216 * *a as u32 + 65536 * *b as u32 + 256 * *c as u32 + *d as u32)
-            }
-            _ => Err(ByteFault::Ends { offset: start }),
-        }
+        Ok(u32::from_be_bytes(self.front(start)?))
+    }
+
+    pub fn take(&mut self, start: usize, n: usize) -> Result<&'a [u8], ByteFault>
+        ensures value { map_ok (λ x. (x.now, self.new.rest.now)) result ≡ take_from start n self.old.rest.now }
+        ensures total { self.new.total ≡ self.old.total }
+    {
+        let (front, after) = self
+            .rest
+            .split_at_checked(n)
+            .ok_or(ByteFault::Ends { offset: start })?;
+        self.rest = after;
+        Ok(front)
     }
 }

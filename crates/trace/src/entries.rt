@@ -12,6 +12,7 @@ use crate::entry::{Entry, next_entry};
 use crate::section::Section;
 use format::kinds::SectionKind;
 
+// A reader at the next entry, and how many are left: entries have no fixed length, so the bytes do not say.
 #[derive(Clone, Copy)]
 pub struct Entries<'a> {
     reader: Reader<'a>,
@@ -27,16 +28,12 @@ impl<'a> Iterator for Entries<'a> {
     ghost remaining = { λ s. at_most s.left };
 
     fn next(&mut self) -> Option<Entry<'a>> {
-        if self.left == 0 {
-            return None;
-        }
-        match next_entry(&mut self.reader, self.kind) {
-            Ok(e) => {
-                self.left -= 1;
-                Some(e)
-            }
-            Err(_) => None,
-        }
+        let left = self.left.checked_sub(1)?;
+        // After a fault none is left.
+        self.left = 0;
+        let e = next_entry(&mut self.reader, self.kind).ok()?;
+        self.left = left;
+        Some(e)
     }
 }
 
@@ -53,7 +50,7 @@ impl<'a> Section<'a> {
         ensures { shown result ≡ laid_in self.now }
     {
         Entries {
-            reader: Reader::resume(self.bytes, self.total),
+            reader: self.reader,
             kind: self.kind,
             left: self.count,
         }

@@ -42,11 +42,9 @@ pub(crate) fn next_entry<'a>(
             Ok(Entry::Thread { name, offset })
         }
         SectionKind::Objects => {
-            let kind = match r.byte(offset)? {
-                b'm' => ObjectKind::Mutex,
-                b's' => ObjectKind::Semaphore,
-                _ => return Err(SectionFault::Entry { offset }),
-            };
+            let kind = ObjectKind::try_from(r.byte(offset)?).map_err(|_| SectionFault::Entry {
+                offset,
+            })?;
             let name = read_name(r, offset)?;
             Ok(Entry::Object { kind, name, offset })
         }

@@ -6,23 +6,11 @@ ghost use Rattle.format.specs.Names.{all_good_bytes, name_from};
 use crate::bytes::Reader;
 use format::fault::SectionFault;
 
-fn all_good(s: &[u8]) -> bool
-    ensures { result ≡ all_good_bytes s.now }
-{
-    for b in s {
-        if *b < 33 || *b > 126 {
-            return false;
-        }
-    }
-    true
-}
-
 // Whether none of the first `n` bytes, as far as they are there, is one that no name has.
 pub fn good_front(s: &[u8], n: usize) -> bool
     ensures { result ≡ all_good_bytes (take n s.now) }
 {
-    let seen = n.min(s.len());
-    all_good(&s[0..seen])
+    s.iter().take(n).all(|b| (33..=126).contains(b))
 }
 
 // The name of the entry that begins at `start`.
@@ -30,13 +18,9 @@ pub fn name<'a>(r: &mut Reader<'a>, start: usize) -> Result<&'a [u8], SectionFau
     ensures value { map_ok (λ n. (n.now, r.new.rest.now)) result ≡ name_from start r.old.rest.now }
     ensures total { r.new.total ≡ r.old.total }
 {
-    let len = r.byte(start)? as usize;
-    if len < 1 || len > 31 {
+    let len = usize::from(r.byte(start)?);
+    if !(1..=31).contains(&len) || !good_front(r.rest(), len) {
         return Err(SectionFault::Entry { offset: start });
     }
-    if !good_front(r.rest(), len) {
-        return Err(SectionFault::Entry { offset: start });
-    }
-    let name = r.take(start, len)?;
-    Ok(name)
+    Ok(r.take(start, len)?)
 }

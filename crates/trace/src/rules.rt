@@ -2,16 +2,18 @@
 ghost use Rattle.std.specs.Prelude.{◌≡◌, ℕ, length};
 
 use event::Counts;
-use format::kinds::{ObjectKind, Stage};
+use format::kinds::Stage;
 
+pub mod lock;
 pub mod steps;
 
-// The kinds of the objects, the stage of each thread and the holder of each mutex.
+use crate::rules::lock::Lock;
+
+// The stage of each thread, and each object's kind and holder. The arrays are fixed, since the reader has no heap.
 #[derive(Clone, Copy)]
 pub struct Rules {
     pub(crate) counts: Counts,
-    pub(crate) kinds: [ObjectKind; 512],
     pub(crate) stages: [Stage; 16],
-    pub(crate) holders: [Option<u8>; 512],
-    ghost sizes: { (length kinds ≡ 512) × (length stages ≡ 16) × (length holders ≡ 512) },
+    pub(crate) objects: [Lock; 512],
+    ghost sizes: { (length stages ≡ 16) × (length objects ≡ 512) },
 }

@@ -1,19 +1,18 @@
 // A trace that was read. It borrows from the file's bytes.
+ghost use Rattle.std.specs.Prelude.{◌≤◌, length};
+
 use crate::section::Section;
 
 pub mod contents;
 
-// The events' part of the file: how many there are, and their bytes.
-#[derive(Clone, Copy)]
-pub struct Block<'a> {
-    pub(crate) count: u32,
-    pub(crate) bytes: &'a [u8],
-}
-
+// That the sections stand where the layout says is a clause of reading, and no ghost field: as one it could be used only where a proposition is
+// to be shown.
 #[derive(Clone, Copy)]
 pub struct Trace<'a> {
     pub(crate) threads: Section<'a>,
     pub(crate) objects: Section<'a>,
     pub(crate) variables: Section<'a>,
-    pub(crate) events: Block<'a>,
+    // the bytes of the events, six each
+    pub(crate) events: &'a [u8],
+    ghost few: { length events.now ≤ 6000000 },
 }

@@ -1,15 +1,15 @@
-// What a run reports at an access.
+// What a run reports at an access. Each part says apart what it leaves alone and what it offers: the one holds always, the other of what the keeper was told.
 ghost use Rattle.std.specs.Prelude.{◌≡◌, ◌<◌, true, List, [], ◌∷◌, ◌++◌, None, slice_index_or};
 ghost use Rattle.event.specs.declared.record.Event.{Event};
 ghost use Rattle.event.specs.Thins.{access};
 ghost use Rattle.finds.specs.Found.{against_one, against_below};
 ghost use Rattle.keeper.specs.Meaning.{Asks};
 ghost use Rattle.order.specs.Marks.{entry};
-ghost use Rattle.detect.specs.Reports.{if_conflicting, unless_below, Offers, Aside, Ready};
+ghost use Rattle.detect.specs.Reports.{unless_below, Offers, Aside, Ready};
 ghost use Rattle.detect.specs.Table.{slot};
 
 use super::Run;
-use crate::finding::{Finding, is_write};
+use crate::finding::is_write;
 use crate::latest;
 use event::{CallerFault, Event, Letter};
 use keeper::Keeper;
@@ -17,35 +17,15 @@ use sink::Sink;
 use source::Source;
 
 impl<'s, 'k, 'l, 'o, S: Source, K: Keeper, O: Sink> Run<'s, 'k, 'l, 'o, S, K, O> {
-    // Finds the two events, if they can be a finding, offers that to the sink, and gives it up only where the sink refuses it.
-    fn find(&mut self, earlier: Event, later: Event)
-        ensures aside { Aside O.Sink self.old self.new }
-        ensures offers { Offers O.Sink self.old (if_conflicting earlier later) self.new }
-    {
-        match Finding::between(earlier, later) {
-            None => {}
-            Some(mut finding) => {
-                self.found = self.found.saturating_add(1);
-                match finding.offer(self.sink) {
-                    Ok(()) => self.written = self.written.saturating_add(1),
-                    Err(_) => finding.give_up(&mut self.dropped),
-                }
-            }
-        }
-    }
-
     // Reports a later event against an access, unless that is among the places below `known`, which lead to it.
     fn against(&mut self, known: u32, access: Option<Event>, later: Event)
         ensures aside { Aside O.Sink self.old self.new }
         ensures offers { Offers O.Sink self.old (unless_below known later access) self.new }
     {
-        match access {
-            None => {}
-            Some(earlier) => {
-                if known <= earlier.place {
-                    self.find(earlier, later);
-                }
-            }
+        if let Some(earlier) = access
+            && known <= earlier.place
+        {
+            self.totals.find(self.sink, earlier, later);
         }
     }
 
@@ -53,7 +33,7 @@ impl<'s, 'k, 'l, 'o, S: Source, K: Keeper, O: Sink> Run<'s, 'k, 'l, 'o, S, K, O>
     fn latest_of(&self, letter: Letter, thread: u8, variable: u16) -> Option<Event>
         ensures { result ≡ slice_index_or self.now.latest.now (slot (S.Source.counts self.now.source.now) letter thread variable) None }
     {
-        let counts = (*self.source).counts();
+        let counts = self.source.counts();
         latest::look_up(self.latest, latest::slot(counts, letter, thread, variable))
     }
 
@@ -88,7 +68,8 @@ impl<'s, 'k, 'l, 'o, S: Source, K: Keeper, O: Sink> Run<'s, 'k, 'l, 'o, S, K, O>
         ensures aside { Aside O.Sink self.old self.new }
         ensures offers { (T : List Event) → Ready S.Source K.Keeper self.old T later → access later ≡ true → Offers O.Sink self.old (against_below (S.Source.counts self.old.source.now).threads T later) self.new }
     {
-        let threads = (*self.source).counts().threads() as u8;
+        // A thread is its number: there is no list of them to go over.
+        let threads = self.source.counts().threads() as u8;
         for thread in 0..threads {
             self.against_thread(thread, later);
         }

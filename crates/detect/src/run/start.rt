@@ -1,15 +1,16 @@
 // The start of a run.
 ghost use Rattle.std.specs.Prelude.{◌≡◌, false, [], length, IfOk, None, OnErr, OnOk};
 ghost use Rattle.event.specs.declared.counts.Counts.{Counts};
-ghost use Rattle.keeper.specs.Telling.{done};
-ghost use Rattle.detect.specs.Steps.{Going, counts_of, rest_of};
-ghost use Rattle.stamp.specs.Tables.{cleared};
+ghost use Rattle.event.specs.Answers.{answered};
+ghost use Rattle.detect.specs.Offers.{none};
+ghost use Rattle.detect.specs.Steps.{Going};
+ghost use Rattle.event.specs.Tables.{cleared};
 ghost use Rattle.detect.specs.Table.{size, starting};
 ghost use Rattle.detect.specs.Whole.{ClearsFor};
 
-use super::Run;
+use super::{Run, Totals};
 use crate::latest;
-use event::{CallerFault, Counts, Event};
+use event::{CallerFault, Counts, Event, table};
 use keeper::Keeper;
 use sink::Sink;
 use source::Source;
@@ -29,7 +30,7 @@ pub(crate) fn clear_for<K: Keeper>(
         return Err(CallerFault::Table { size });
     }
     keeper.clear(counts)?;
-    latest::clear(latest, size);
+    table::clear(latest, size, None);
     Ok(())
 }
 
@@ -42,16 +43,14 @@ impl<'s, 'k, 'l, 'o, S: Source, K: Keeper, O: Sink> Run<'s, 'k, 'l, 'o, S, K, O>
         sink: &'o mut O,
     ) -> Run<'s, 'k, 'l, 'o, S, K, O>
         ensures lent { (result.source ≡ source.entry) × (result.keeper ≡ keeper.entry) × (result.latest ≡ latest.entry) × (result.sink ≡ sink.entry) }
-        ensures nothing { (result.found ≡ 0) × (result.written ≡ 0) × (result.dropped ≡ 0) × (result.ended ≡ false) }
+        ensures nothing { (result.totals ≡ none) × (result.ended ≡ false) }
     {
         Run {
             source,
             keeper,
             latest,
             sink,
-            found: 0,
-            written: 0,
-            dropped: 0,
+            totals: Totals::none(),
             ended: false,
         }
     }
@@ -63,14 +62,14 @@ impl<'s, 'k, 'l, 'o, S: Source, K: Keeper, O: Sink> Run<'s, 'k, 'l, 'o, S, K, O>
         latest: &'l mut [Option<Event>],
         sink: &'o mut O,
     ) -> Result<Run<'s, 'k, 'l, 'o, S, K, O>, CallerFault>
-        ensures answer { done result ≡ starting (S.Source.counts source.old) (length latest.old) (K.Keeper.lacks keeper.old (S.Source.counts source.old)) }
+        ensures answer { answered result ≡ starting (S.Source.counts source.old) (length latest.old) (K.Keeper.lacks keeper.old (S.Source.counts source.old)) }
         ensures going { IfOk result (λ x. Going S.Source K.Keeper x []) }
         ensures keeper { IfOk result (λ x. (K.Keeper.capacity x.keeper.now ≡ K.Keeper.capacity keeper.old) × ((c : Counts) → K.Keeper.lacks x.keeper.now c ≡ K.Keeper.lacks keeper.old c)) }
         ensures latest { IfOk result (λ x. x.latest.now ≡ cleared (size (S.Source.counts source.old)) None latest.old) }
         ensures lent { IfOk result (λ x. (x.source.now ≡ source.old) × (x.sink.now ≡ sink.old)) }
-        ensures nothing { IfOk result (λ x. (x.found ≡ 0) × (x.written ≡ 0) × (x.dropped ≡ 0) × (x.ended ≡ false)) }
+        ensures nothing { IfOk result (λ x. (x.totals ≡ none) × (x.ended ≡ false)) }
     {
-        let counts = (*source).counts();
+        let counts = source.counts();
         clear_for(counts, keeper, latest)?;
         Ok(Run::new(source, keeper, latest, sink))
     }

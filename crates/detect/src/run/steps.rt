@@ -17,7 +17,7 @@ impl<'s, 'k, 'l, 'o, S: Source, K: Keeper, O: Sink> Run<'s, 'k, 'l, 'o, S, K, O>
     {
         if event.is_access() {
             self.against_all(event);
-            let counts = (*self.source).counts();
+            let counts = self.source.counts();
             let slot = latest::slot(counts, event.letter, event.thread, event.number);
             latest::note(self.latest, slot, event);
         }
@@ -31,22 +31,16 @@ impl<'s, 'k, 'l, 'o, S: Source, K: Keeper, O: Sink> Run<'s, 'k, 'l, 'o, S, K, O>
         if self.ended {
             return Step::Ended;
         }
-        match self.source.next() {
-            None => {
-                self.ended = true;
-                Step::Ended
-            }
-            Some(event) => match self.keeper.tell(event) {
-                Err(fault) => {
-                    self.ended = true;
-                    Step::Refused(fault)
-                }
-                Ok(()) => {
-                    self.pass(event);
-                    Step::Told
-                }
-            },
+        let Some(event) = self.source.next() else {
+            self.ended = true;
+            return Step::Ended;
+        };
+        if let Err(fault) = self.keeper.tell(event) {
+            self.ended = true;
+            return Step::Refused(fault);
         }
+        self.pass(event);
+        Step::Told
     }
 
     // Steps till the run ends, at most so many times.
@@ -55,11 +49,9 @@ impl<'s, 'k, 'l, 'o, S: Source, K: Keeper, O: Sink> Run<'s, 'k, 'l, 'o, S, K, O>
         ensures goes { Going S.Source K.Keeper self.old [] → self.old.ended ≡ false → Goes S.Source K.Keeper O.Sink budget self.old self.new }
     {
         for _turn in 0..budget {
-            match self.step() {
-                Step::Told => {}
-                Step::Ended => return,
-                Step::Refused(_) => return,
-            }
+            let Step::Told = self.step() else {
+                return;
+            };
         }
     }
 
@@ -73,12 +65,8 @@ impl<'s, 'k, 'l, 'o, S: Source, K: Keeper, O: Sink> Run<'s, 'k, 'l, 'o, S, K, O>
     // What an ended run came to. Asking a run that has not ended fails the proof.
     pub fn totals(&self) -> Totals
         requires { self.now.ended ≡ true }
-        ensures { (result.found ≡ self.now.found) × (result.written ≡ self.now.written) × (result.dropped ≡ self.now.dropped) }
+        ensures { result ≡ self.now.totals }
     {
-        Totals {
-            found: self.found,
-            written: self.written,
-            dropped: self.dropped,
-        }
+        self.totals
     }
 }

@@ -13,7 +13,7 @@ impl Counts {
         ensures value { result ≡ counted threads objects variables }
         ensures same { IfOk result (λ c. (c.threads ≡ threads) × (c.objects ≡ objects) × (c.variables ≡ variables)) }
     {
-        if threads < 1 || threads > 16 {
+        if !(1..=16).contains(&threads) {
             return Err(CallerFault::Counts { count: threads });
         }
         if objects > 512 {
@@ -34,7 +34,7 @@ impl Counts {
         ensures { result ≡ nearest threads objects variables }
     {
         Counts {
-            threads: threads.max(1).min(16),
+            threads: threads.clamp(1, 16),
             objects: objects.min(512),
             variables: variables.min(256),
         }

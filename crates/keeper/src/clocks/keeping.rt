@@ -1,20 +1,46 @@
 // The clocks as a keeper.
-ghost use Rattle.std.specs.Prelude.{◌≡◌, is_ok, if◌then◌else◌};
+ghost use Rattle.std.specs.Prelude.{◌≡◌, [], length, is_ok, if◌then◌else◌, IfOk};
 ghost use Rattle.stamp.specs.Clocks.{later, zeros, tick};
-ghost use Rattle.stamp.specs.Slots.{slots};
+ghost use Rattle.stamp.specs.Slots.{slots, starting};
 ghost use Rattle.stamp.specs.Tables.{cleared, threads_after, objects_after};
 ghost use Rattle.keeper.specs.Kept.{clocks_counts, clocks_capacity, clocks_lacks, clocks_told};
 ghost use Rattle.keeper.specs.Meaning.{Clears, Tells};
+ghost use Rattle.event.specs.Answers.{answered};
 
-use crate::admit::{admit, declared};
+use crate::admit::declared;
 use crate::clocks::Clocks;
 use crate::keeper::Keeper;
 use crate::plain::PlainCounts;
-use event::{CallerFault, Counts, Event};
-use stamp::slots::{room, slots};
-use stamp::tables::{clear, copy_out};
+use event::intake::LAST_PLACE;
+use event::{CallerFault, Counts, Event, Intake};
+use stamp::Clock;
+use stamp::tables::{carry, copy_out, start};
 
-const CAPACITY: usize = 1_000_000;
+// An event for each place.
+const CAPACITY: usize = LAST_PLACE as usize + 1;
+
+impl<'a> Clocks<'a> {
+    // Making a keeper is a first clearing, refused alike.
+    pub fn new(
+        counts: Counts,
+        threads: &'a mut [Clock],
+        objects: &'a mut [Clock],
+    ) -> Result<Clocks<'a>, CallerFault>
+        ensures answer { answered result ≡ starting counts (length threads.old) (length objects.old) }
+        ensures counts { IfOk result (λ k. clocks_counts k ≡ counts) }
+        ensures told { IfOk result (λ k. clocks_told k []) }
+        ensures threads { IfOk result (λ k. k.threads.now ≡ cleared counts.threads zeros threads.old) }
+        ensures objects { IfOk result (λ k. k.objects.now ≡ cleared (slots counts) zeros objects.old) }
+    {
+        start(counts, threads, objects)?;
+        Ok(Clocks {
+            plain: PlainCounts::new(counts),
+            told: Intake::new(),
+            threads,
+            objects,
+        })
+    }
+}
 
 impl<'a> Keeper for Clocks<'a> {
     ghost counts = { clocks_counts };
@@ -41,12 +67,9 @@ impl<'a> Keeper for Clocks<'a> {
         ensures threads { self.new.threads.now ≡ (if is_ok result then cleared fresh.threads zeros self.old.threads.now else self.old.threads.now) }
         ensures objects { self.new.objects.now ≡ (if is_ok result then cleared (slots fresh) zeros self.old.objects.now else self.old.objects.now) }
     {
-        room(fresh, self.threads.len(), self.objects.len())?;
-        clear(self.threads, fresh.threads());
-        clear(self.objects, slots(fresh));
+        start(fresh, self.threads, self.objects)?;
         self.plain = PlainCounts::new(fresh);
-        self.told = 0;
-        self.last = None;
+        self.told = Intake::new();
         Ok(())
     }
 
@@ -55,16 +78,14 @@ impl<'a> Keeper for Clocks<'a> {
         ensures threads { self.new.threads.now ≡ (if is_ok result then threads_after later zeros (clocks_counts self.old) self.old.threads.now self.old.objects.now e (tick e) else self.old.threads.now) }
         ensures objects { self.new.objects.now ≡ (if is_ok result then objects_after later zeros (clocks_counts self.old) self.old.threads.now self.old.objects.now e (tick e) else self.old.objects.now) }
     {
-        admit(self.plain.counts(), CAPACITY, self.told, self.last, e)?;
-        self.carry(e);
-        self.told += 1;
-        self.last = Some(e.place);
+        let counts = self.plain.counts();
+        self.told.take(counts, CAPACITY, e)?;
+        carry(counts, self.threads, self.objects, e, Clock::tick(e));
         Ok(())
     }
 
     fn ask(&self, t: usize, u: usize) -> Result<u32, CallerFault> {
         declared(self.plain.counts(), t, u)?;
-        let clock = copy_out(self.threads, t);
-        Ok(clock.entry(u))
+        Ok(copy_out(self.threads, t).entry(u))
     }
 }

@@ -8,19 +8,17 @@ use stamp::slots::slot_of;
 fn flagged(flags: &[bool], slot: Option<usize>) -> bool
     ensures { result ≡ flagged flags.now slot }
 {
-    match slot {
-        Some(k) => k < flags.len() && flags[k],
-        None => false,
-    }
+    slot.and_then(|k| flags.get(k)).copied().unwrap_or(false)
 }
 
 fn flag(flags: &mut [bool], slot: Option<usize>)
     ensures { flags.new ≡ flag flags.old slot }
 {
-    if let Some(k) = slot {
-        if k < flags.len() {
-            flags[k] = true;
-        }
+    // The library does not say what a table ends as after its `get_mut`.
+    if let Some(k) = slot
+        && k < flags.len()
+    {
+        flags[k] = true;
     }
 }
 
@@ -44,9 +42,8 @@ fn walk_back(
     ensures { WalksFrom counts told.now threads.old objects.old t u result }
 {
     flag(threads, Some(t));
-    for i in (0..told.len()).rev() {
-        let e = told[i];
-        if leads(counts, threads, objects, e) {
+    for e in told.iter().rev() {
+        if leads(counts, threads, objects, *e) {
             if usize::from(e.thread) == u {
                 return e.place.saturating_add(1);
             }
@@ -57,18 +54,11 @@ fn walk_back(
     0
 }
 
-// No flag for any of the objects that counts can have.
-fn no_objects() -> [bool; 544]
-    ensures { result ≡ replicate 544 false }
-{
-    [false; 544]
-}
-
-// The entry of t for u after the events told.
+// The entry of t for u after the events told. The flags have room for all that counts can declare, and take no heap.
 pub fn entry(counts: Counts, told: &[Event], t: usize, u: usize) -> u32
     ensures { WalksTo counts told.now t u result }
 {
     let mut threads = [false; 16];
-    let mut objects = no_objects();
+    let mut objects = [false; 544];
     walk_back(counts, told, &mut threads, &mut objects, t, u)
 }

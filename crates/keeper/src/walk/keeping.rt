@@ -3,12 +3,11 @@ ghost use Rattle.std.specs.Prelude.{◌≡◌, [], is_ok, if◌then◌else◌, s
 ghost use Rattle.keeper.specs.Kept.{walk_counts, walk_capacity, walk_lacks, walk_told};
 ghost use Rattle.keeper.specs.Meaning.{Clears, Tells};
 
-use crate::admit::{admit, declared};
+use crate::admit::declared;
 use crate::keeper::Keeper;
-use crate::plain::PlainCounts;
 use crate::walk::Walk;
 use crate::walk::back::entry;
-use event::{CallerFault, Counts, Event};
+use event::{CallerFault, Counts, Event, Intake};
 
 impl<'a> Walk<'a> {
     // Making a keeper is a first clearing, and a walk has no table that depends on the counts: it is not refused.
@@ -18,10 +17,9 @@ impl<'a> Walk<'a> {
         ensures events { result.events.now ≡ events.old }
     {
         Walk {
-            plain: PlainCounts::new(counts),
+            counts,
+            told: Intake::new(),
             events,
-            told: 0,
-            last: None,
         }
     }
 }
@@ -38,7 +36,7 @@ impl<'a> Keeper for Walk<'a> {
     ghost fits = { λ k es h. h.fits };
 
     fn counts(&self) -> Counts {
-        self.plain.counts()
+        self.counts
     }
 
     fn capacity(&self) -> usize {
@@ -50,29 +48,25 @@ impl<'a> Keeper for Walk<'a> {
         ensures clears { Clears walk_counts walk_capacity walk_lacks walk_told self.old self.new fresh result }
         ensures events { self.new.events.now ≡ self.old.events.now }
     {
-        self.plain = PlainCounts::new(fresh);
-        self.told = 0;
-        self.last = None;
+        self.counts = fresh;
+        self.told = Intake::new();
         Ok(())
     }
 
     // Writes the event behind those told.
     fn tell(&mut self, e: Event) -> Result<(), CallerFault>
         ensures tells { Tells walk_counts walk_capacity walk_lacks walk_told self.old self.new e result }
-        ensures events { self.new.events.now ≡ (if is_ok result then slice_set self.old.events.now self.old.told e else self.old.events.now) }
+        ensures events { self.new.events.now ≡ (if is_ok result then slice_set self.old.events.now self.old.told.taken e else self.old.events.now) }
     {
-        let n = self.told;
-        admit(self.plain.counts(), self.events.len(), n, self.last, e)?;
+        let n = self.told.taken;
+        self.told.take(self.counts, self.events.len(), e)?;
         self.events[n] = e;
-        self.told = n + 1;
-        self.last = Some(e.place);
         Ok(())
     }
 
     fn ask(&self, t: usize, u: usize) -> Result<u32, CallerFault> {
-        let counts = self.plain.counts();
-        declared(counts, t, u)?;
-        let n = self.told.min(self.events.len());
-        Ok(entry(counts, &self.events[0..n], t, u))
+        declared(self.counts, t, u)?;
+        let n = self.told.taken.min(self.events.len());
+        Ok(entry(self.counts, &self.events[..n], t, u))
     }
 }

@@ -24,11 +24,7 @@ impl Tally {
     pub fn count(&self, variable: u16) -> Option<u32>
         ensures { result ≡ slice_get self.now.counters variable }
     {
-        if variable < 256 {
-            Some(self.counters[usize::from(variable)])
-        } else {
-            None
-        }
+        self.counters.get(usize::from(variable)).copied()
     }
 }
 

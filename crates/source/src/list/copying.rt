@@ -1,6 +1,6 @@
 // A list that is made from a source.
-ghost use Rattle.std.specs.Prelude.{◌≡◌, ◌≤◌, [], ◌++◌, length, drop, is_ok, if◌then◌else◌};
-ghost use Rattle.source.specs.Listed.{listed, entries, capacity, room_for};
+ghost use Rattle.std.specs.Prelude.{◌≡◌, ◌≤◌, [], length, is_ok, if◌then◌else◌};
+ghost use Rattle.source.specs.Listed.{listed, held, refilled, capacity, room_for};
 
 use crate::list::EventList;
 use crate::source::{Measured, Source};
@@ -10,12 +10,9 @@ impl EventList<'_> {
     // Takes the source's counts and its events in place of the list's own, unless these are more than the table can hold: then nothing changes.
     pub fn copy_from<S: Measured>(&mut self, source: &mut S) -> Result<(), CallerFault>
         ensures answer { result ≡ room_for (capacity self.old) (S.Source.rest source.old) }
-        ensures counts { self.new.counts ≡ (if is_ok result then S.Source.counts source.old else self.old.counts) }
-        ensures events { listed self.new ≡ (if is_ok result then S.Source.rest source.old else listed self.old) }
-        ensures entries { entries self.new ≡ (if is_ok result then S.Source.rest source.old ++ drop (length (S.Source.rest source.old)) (entries self.old) else entries self.old) }
+        ensures list { held self.new ≡ (if is_ok result then refilled (held self.old) (S.Source.counts source.old) (S.Source.rest source.old) else held self.old) }
         ensures spent { S.Source.rest source.new ≡ (if is_ok result then [] else S.Source.rest source.old) }
         ensures keeps { S.Source.counts source.new ≡ S.Source.counts source.old }
-        ensures lender { self.new.table.ghost_name ≡ self.old.table.ghost_name }
     {
         let capacity = self.capacity();
         if source.remaining() > capacity {
@@ -28,10 +25,7 @@ impl EventList<'_> {
 
     // The empty list with these counts.
     fn clear(&mut self, counts: Counts)
-        ensures counts { self.new.counts ≡ counts }
-        ensures events { listed self.new ≡ [] }
-        ensures entries { entries self.new ≡ entries self.old }
-        ensures lender { self.new.table.ghost_name ≡ self.old.table.ghost_name }
+        ensures { held self.new ≡ refilled (held self.old) counts [] }
     {
         self.counts = counts;
         self.len = 0;
@@ -42,12 +36,9 @@ impl EventList<'_> {
         requires counts { self.old.counts ≡ S.Source.counts source.old }
         requires empty { listed self.old ≡ [] }
         requires room { length (S.Source.rest source.old) ≤ capacity self.old }
-        ensures counts { self.new.counts ≡ self.old.counts }
-        ensures events { listed self.new ≡ S.Source.rest source.old }
-        ensures entries { entries self.new ≡ S.Source.rest source.old ++ drop (length (S.Source.rest source.old)) (entries self.old) }
+        ensures list { held self.new ≡ refilled (held self.old) self.old.counts (S.Source.rest source.old) }
         ensures spent { S.Source.rest source.new ≡ [] }
         ensures keeps { S.Source.counts source.new ≡ S.Source.counts source.old }
-        ensures lender { self.new.table.ghost_name ≡ self.old.table.ghost_name }
     {
         while let Some(e) = source.next() {
             self.append(e);

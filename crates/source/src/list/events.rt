@@ -15,7 +15,7 @@ impl EventList<'_> {
     {
         ListEvents {
             counts: self.counts,
-            events: &self.table[0..self.len],
+            events: self.as_slice(),
         }
     }
 }
@@ -32,9 +32,7 @@ impl Source for ListEvents<'_> {
     }
 
     fn next(&mut self) -> Option<Event> {
-        let [e, rest @ ..] = self.events else {
-            return None;
-        };
+        let (e, rest) = self.events.split_first()?;
         self.events = rest;
         Some(*e)
     }

@@ -1,23 +1,17 @@
 // How a list of events is made, and what it answers.
-ghost use Rattle.std.specs.Prelude.{◌≡◌, ◌<◌, [], ◌∷◌, ◌++◌, length, is_ok, if◌then◌else◌, Decides, slice_set};
+ghost use Rattle.std.specs.Prelude.{◌≡◌, ◌<◌, [], ◌∷◌, ◌++◌, length, is_ok, if◌then◌else◌, Decides};
 ghost use Rattle.std.specs.List.{slice_get};
-ghost use Rattle.event.specs.Offers.{above_last, offered};
+ghost use Rattle.event.specs.Offers.{offered};
 ghost use Rattle.event.specs.Thins.{Sound};
-ghost use Rattle.source.specs.Listed.{listed, entries, capacity};
+ghost use Rattle.source.specs.Listed.{listed, held, with_event, capacity};
 
 use crate::list::EventList;
-use event::{CallerFault, Counts, Event};
-
-// The highest place that an event can have.
-const LAST_PLACE: u32 = 999_999;
+use event::{CallerFault, Counts, Event, Intake};
 
 impl<'a> EventList<'a> {
     // The empty list, with room for as many events as the table has entries.
     pub fn new(counts: Counts, table: &'a mut [Event]) -> EventList<'a>
-        ensures counts { result.counts ≡ counts }
-        ensures events { listed result ≡ [] }
-        ensures entries { entries result ≡ table.old }
-        ensures lender { result.table.ghost_name ≡ table.entry.ghost_name }
+        ensures { held result ≡ record { lender = table.entry.ghost_name; counts = counts; events = []; entries = table.old } }
     {
         EventList {
             counts,
@@ -47,17 +41,13 @@ impl<'a> EventList<'a> {
     pub fn get(&self, index: usize) -> Option<Event>
         ensures { result ≡ slice_get (listed self.now) index }
     {
-        if index < self.len {
-            Some(self.table[index])
-        } else {
-            None
-        }
+        self.as_slice().get(index).copied()
     }
 
     pub fn as_slice(&self) -> &[Event]
         ensures { result.now ≡ listed self.now }
     {
-        &self.table[0..self.len]
+        &self.table[..self.len]
     }
 
     // Appends the event, unless it is refused: then nothing changes.
@@ -65,10 +55,7 @@ impl<'a> EventList<'a> {
     pub fn push(&mut self, e: Event) -> Result<(), CallerFault>
         ensures answer { result ≡ offered self.old.counts (capacity self.old) (listed self.old) e }
         ensures exactly { Decides (is_ok result) (Sound self.old.counts (listed self.old ++ e ∷ []) × (length (listed self.old) < capacity self.old)) }
-        ensures events { listed self.new ≡ (if is_ok result then listed self.old ++ e ∷ [] else listed self.old) }
-        ensures entries { entries self.new ≡ (if is_ok result then slice_set (entries self.old) (length (listed self.old)) e else entries self.old) }
-        ensures counts { self.new.counts ≡ self.old.counts }
-        ensures lender { self.new.table.ghost_name ≡ self.old.table.ghost_name }
+        ensures list { held self.new ≡ (if is_ok result then with_event (held self.old) e else held self.old) }
     {
         self.check(e)?;
         self.append(e);
@@ -79,10 +66,7 @@ impl<'a> EventList<'a> {
     pub(super) fn append(&mut self, e: Event)
         requires room { length (listed self.old) < capacity self.old }
         requires sound { Sound self.old.counts (listed self.old ++ e ∷ []) }
-        ensures events { listed self.new ≡ listed self.old ++ e ∷ [] }
-        ensures entries { entries self.new ≡ slice_set (entries self.old) (length (listed self.old)) e }
-        ensures counts { self.new.counts ≡ self.old.counts }
-        ensures lender { self.new.table.ghost_name ≡ self.old.table.ghost_name }
+        ensures { held self.new ≡ with_event (held self.old) e }
     {
         self.table[self.len] = e;
         self.len += 1;
@@ -92,24 +76,11 @@ impl<'a> EventList<'a> {
     fn check(&self, e: Event) -> Result<(), CallerFault>
         ensures { result ≡ offered self.now.counts (capacity self.now) (listed self.now) e }
     {
-        let place = e.place as usize;
-        if !self.counts.in_range(e) {
-            return Err(CallerFault::Range { place });
-        }
-        if !self.is_above_last(e.place) || e.place > LAST_PLACE {
-            return Err(CallerFault::Place { place });
-        }
-        if self.len >= self.table.len() {
-            return Err(CallerFault::Full {
-                capacity: self.table.len(),
-            });
-        }
-        Ok(())
-    }
-
-    fn is_above_last(&self, place: u32) -> bool
-        ensures { result ≡ above_last (listed self.now) place }
-    {
-        self.len == 0 || self.table[self.len - 1].place < place
+        let last = self.as_slice().last().map(|f| f.place);
+        let taken = Intake {
+            taken: self.len,
+            last,
+        };
+        taken.admit(self.counts, self.table.len(), e)
     }
 }

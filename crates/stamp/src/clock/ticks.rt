@@ -12,20 +12,17 @@ impl Stamp for Clock {
 
     ghost joined = { later };
 
-    ghost least = { zeros };
+    ghost LEAST = { zeros };
 
     const LEAST: Clock = Clock { entries: [0; 16] };
 
     ghost lawful = { clock_laws };
 
-    fn lowest() -> Clock {
-        Clock::LEAST
-    }
-
     fn join(self, other: Clock) -> Clock {
-        let mut entries = [0; 16];
-        for i in 0..16 {
-            entries[i] = self.entries[i].max(other.entries[i]);
+        let mut entries = self.entries;
+        // With `array::from_fn` the proof does not close: it says of each result that some call gave it, and not what the closure then held.
+        for (i, entry) in entries.iter_mut().enumerate() {
+            *entry = (*entry).max(other.entries[i]);
         }
         Clock { entries }
     }
@@ -37,6 +34,7 @@ impl Clock {
         ensures { result ≡ tick e }
     {
         let mut entries = [0; 16];
+        // The library does not say what an array ends as after its `get_mut`.
         if e.thread < 16 {
             entries[usize::from(e.thread)] = e.place.saturating_add(1);
         }
@@ -48,6 +46,6 @@ impl Clock {
         ensures value { result ≡ slice_index self.now.entries thread }
         ensures entry { TellsEntry self.now thread result }
     {
-        if thread < 16 { self.entries[thread] } else { 0 }
+        self.entries.get(thread).copied().unwrap_or(0)
     }
 }

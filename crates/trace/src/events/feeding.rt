@@ -1,5 +1,5 @@
 // The events of a trace, one by one.
-ghost use Rattle.std.specs.Prelude.{◌≡◌, ◌-◌, min};
+ghost use Rattle.std.specs.Prelude.{◌≡◌, ◌/◌, ◌≤◌, length};
 ghost use Rattle.format.specs.Events.{got_events};
 ghost use Rattle.trace.specs.Feed.{coming, Fed};
 ghost use Rattle.std.specs.Iterator.{at_most};
@@ -13,23 +13,14 @@ impl<'a> Iterator for Events<'a> {
 
     ghost next_gives = { λ s r t. Fed s r t };
 
-    ghost remaining = { λ s. at_most (s.count - s.place) };
+    ghost remaining = { λ s. at_most (length s.rest.now / 6) };
 
     fn next(&mut self) -> Option<Event> {
-        if self.place >= self.count {
-            return None;
-        }
-        if self.rest.len() < 6 {
-            return None;
-        }
-        match event(self.counts, self.place, self.rest) {
-            Ok(e) => {
-                self.rest = self.rest.split_at(6).1;
-                self.place += 1;
-                Some(e)
-            }
-            Err(_) => None,
-        }
+        let (bytes, after) = self.rest.split_first_chunk::<6>()?;
+        let e = event(self.counts, self.place, bytes).ok()?;
+        self.rest = after;
+        self.place += 1;
+        Some(e)
     }
 }
 
@@ -42,15 +33,15 @@ impl<'a> Events<'a> {
     }
 
     // The events of a block, from the first one on.
-    pub(crate) fn starting(rest: &'a [u8], counts: Counts, count: u32) -> Events<'a>
+    pub(crate) fn starting(rest: &'a [u8], counts: Counts) -> Events<'a>
+        requires { length rest.now ≤ 6000000 }
         ensures counts { result.counts ≡ counts }
-        ensures events { coming result ≡ got_events counts 0 (min count 1000000) rest.now }
+        ensures events { coming result ≡ got_events counts 0 (length rest.now / 6) rest.now }
     {
         Events {
             rest,
             counts,
             place: 0,
-            count: count.min(1_000_000),
         }
     }
 }

@@ -1,7 +1,7 @@
 // What a trace that was read has.
 ghost use Rattle.std.specs.Prelude.{◌≡◌};
 ghost use Rattle.trace.specs.Feed.{coming};
-ghost use Rattle.trace.specs.Whole.{contents_of, counts_in};
+ghost use Rattle.trace.specs.Whole.{contents_of, counts_in, count_in};
 
 use crate::events::Events;
 use crate::section::Section;
@@ -39,9 +39,9 @@ impl<'a> Trace<'a> {
 
     // How many events there are.
     pub fn len(&self) -> usize
-        ensures { result ≡ self.now.events.count }
+        ensures { result ≡ count_in self.now }
     {
-        self.events.count as usize
+        self.events.len() / 6
     }
 
     // The events in the order of the file.
@@ -49,6 +49,6 @@ impl<'a> Trace<'a> {
         ensures counts { result.counts ≡ counts_in self.now }
         ensures events { coming result ≡ (contents_of self.now).events }
     {
-        Events::starting(self.events.bytes, self.counts(), self.events.count)
+        Events::starting(self.events, self.counts())
     }
 }

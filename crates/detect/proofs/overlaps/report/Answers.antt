@@ -1,4 +1,4 @@
-use Rattle.std.proofs.Common.{◌≡◌, List, [], sym, ap, ◌∙◌, subst, subst₂}
+use Rattle.std.proofs.Common.{◌≡◌, List, [], rules, sym, ap, ◌∙◌, subst, subst₂}
 use Rattle.event.specs.declared.counts.Counts.{Counts}
 use Rattle.event.specs.declared.record.Event.{Event}
 use Rattle.event.specs.Thins.{Sound}
@@ -13,12 +13,14 @@ use Rattle.detect.proofs.overlaps.report.Goals as goal
 pub each_rise-requires : goal.each_rise-requires
 each_rise-requires g c =
     let l = c.args.list.now in
-    let n = c.counts-counts.result in
     let checks = c.in_ok-check.ensures in
-    let anew = cleared_anew l.counts (listed l) c.args.levels.now c.check.new.levels _ checks.answer checks.levels in
+    let lent = c.clear.new.self in
+    let counts = c.clear.ensures.counts ∙ c.counts-counts.ensures in
+    let clear = c.clear.ensures.levels ∙ ap (λ (d : Counts). cleared d c.check.new.levels) c.counts-counts.ensures in
+    let anew = clear ∙ cleared_anew l.counts (listed l) c.args.levels.now c.check.new.levels _ checks.answer checks.levels ∙ ap (tabled l.counts []) (sym clear) in
     record {
-      sound = subst₂ (λ (a : Counts) b. Sound a b) (sym c.counts-counts.ensures) (sym c.as_slice.ensures) (sound_held l.counts (listed l) l.sound);
-      clear = c.clear.ensures ∙ subst (λ (d : Counts). cleared d c.check.new.levels ≡ tabled d [] (cleared d c.check.new.levels)) (sym c.counts-counts.ensures) anew ∙ ap (tabled n []) (sym c.clear.ensures);
+      sound = subst₂ (λ (a : Counts) b. Sound a b) (sym counts) (sym c.as_slice.ensures) (sound_held l.counts (listed l) l.sound);
+      clear = subst (λ (d : Counts). lent.table.now ≡ tabled d [] lent.table.now) (sym counts) anew;
     }
 
 pub returns : goal.returns
@@ -26,19 +28,20 @@ returns g c =
     let l = c.args.list.now in
     let checks = c.in_ok-check.ensures in
     let did = c.each_rise.ensures in
-    let counts = c.counts-counts.ensures in
+    let counts = c.clear.ensures.counts ∙ c.counts-counts.ensures in
     let events = c.as_slice.ensures in
     let after = c.check.new.levels in
+    let leaves =
+    did.levels.levels
+    ∙ (λ i. tabled (counts i) (events i) c.clear.new.self.table.now)
+    ∙ ap (tabled l.counts (listed l)) (c.clear.ensures.levels ∙ ap (λ (d : Counts). cleared d after) c.counts-counts.ensures)
+    ∙ levels_anew l.counts (listed l) c.args.levels.now after _ checks.answer checks.levels in
     record {
       answer = checks.answer;
       exact = checks.exact;
-      levels =
-          did.levels
-          ∙ ap (tabled c.counts-counts.result c.as_slice.result.now) c.clear.ensures
-          ∙ (λ i. tabled (counts i) (events i) (cleared (counts i) after))
-          ∙ levels_anew l.counts (listed l) c.args.levels.now after _ checks.answer checks.levels;
+      levels = search (rules, leaves, did.levels.lent, c.clear.ensures.lent);
       reports =
-          reports_all g.O.Sink l.counts (listed l) (sound_held l.counts (listed l) l.sound) checks.exact.1 _ _ _ did.capacity
-          (subst₂ (λ (d : Counts) (L : List Event). OffersTo g.O.Sink c.args.sink.now none (reported d L) c.each_rise.new.sink c.each_rise.result) counts events did.offers);
+          reports_all g.O.Sink l.counts (listed l) (sound_held l.counts (listed l) l.sound) checks.exact.1 _ _ _ did.offers.capacity
+          (subst₂ (λ (d : Counts) (L : List Event). OffersTo g.O.Sink c.args.sink.now none (reported d L) c.each_rise.new.sink c.each_rise.result) counts events did.offers.offers);
       kept = tt;
     }

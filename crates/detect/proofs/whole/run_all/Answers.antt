@@ -12,7 +12,6 @@ pub returns : goal.returns
 returns g c =
     let s = g.S.Source in
     let k = g.K.Keeper in
-    let o = g.O.Sink in
     let was = c.new-run.result in
     let is = c.go.new.self in
     let lent = c.new-run.ensures.lent in
@@ -24,16 +23,7 @@ returns g c =
     let keeper = c.args.keeper.now in
     let latest = c.args.latest.now in
     let own : counts_of s was ≡ c.counts-counts.result = ap (λ r. s.counts r.now) lent.0 ∙ sym counts in
-    let going =
-    going_begun s k was c.counts-counts.result keeper c.clear_for.new.keeper latest c.clear_for.new.latest
-    own (ap (λ r. r.now) lent.1) (ap (λ r. r.now) lent.2) cleared.cleared in
-    let source_name : c.end.new.self.source.ghost_name ≡ was.source.ghost_name = ap (λ r. r.ghost_name) c.end.ensures.1 ∙ keeps.source_lender in
-    let source-now : c.end.new.self.source.now ≡ is.source.now = ap (λ r. r.now) c.end.ensures.1 in
-    let keeper-name : c.end.new.self.keeper.ghost_name ≡ was.keeper.ghost_name = ap (λ r. r.ghost_name) stops.keeper ∙ keeps.keeper_lender in
-    let keeper-now : c.end.new.self.keeper.now ≡ is.keeper.now = ap (λ r. r.now) stops.keeper in
-    let latest-name : c.end.new.self.latest.ghost_name ≡ was.latest.ghost_name = ap (λ r. r.ghost_name) stops.latest ∙ keeps.latest_lender in
-    let sink-name : c.end.new.self.sink.ghost_name ≡ was.sink.ghost_name = ap (λ r. r.ghost_name) stops.sink ∙ keeps.sink_lender in
-    let sink-now : c.end.new.self.sink.now ≡ is.sink.now = ap (λ r. r.now) stops.sink in
+    let going = going_begun s k was c.counts-counts.result keeper c.clear_for.new.keeper latest c.clear_for.new.latest own (search rules) (search rules) cleared.cleared in
     let latest-spare : drop (size (s.counts c.args.source.now)) c.end.new.self.latest.now ≡ drop (size (s.counts c.args.source.now)) latest =
     ap (λ r. drop (size (s.counts c.args.source.now)) r.now) stops.latest
     ∙ subst (λ (d : Counts). drop (size d) is.latest.now ≡ drop (size d) was.latest.now) (ap (λ r. s.counts r.now) lent.0) keeps.spare
@@ -43,12 +33,8 @@ returns g c =
     record {
       answer = cleared.answer ∙ ap (λ d. starting d (length latest) (k.lacks keeper d)) counts;
       ran =
-          whole_as (ap (λ r. r.now) lent.0) (search rules) (search rules) (ap (λ r. r.now) lent.3) (search rules)
-          (whole_run s k o c.args.budget was is keeper c.totals.result
-          (ap (λ r. k.capacity r.now) lent.1 ∙ cleared.cleared.capacity)
-          (λ d. ap (λ r. k.lacks r.now d) lent.1 ∙ cleared.cleared.tables d)
-          (nothing.0, nothing.1, nothing.2) keeps (c.go.ensures.goes going nothing.3)
-          (c.totals.ensures.0 ∙ stops.found, c.totals.ensures.1 ∙ stops.written, c.totals.ensures.2 ∙ stops.dropped));
+          whole_as (search rules) (search rules) (search rules) (search rules) (search rules)
+          (whole_run s k g.O.Sink c.args.budget was is keeper c.totals.result (search rules) (λ d. search rules) nothing.0 keeps (c.go.ensures.goes going nothing.1) (search rules));
       spare = search rules;
       kept = tt;
     }

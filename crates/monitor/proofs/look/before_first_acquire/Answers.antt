@@ -1,19 +1,15 @@
-use Rattle.std.proofs.Common.{sym, ◌∙◌, arith, below_more}
-use Rattle.monitor.specs.Regions.{acquires_of}
+use Rattle.std.proofs.Common.{◌≡◌, ℕ, rules, Option, Some, None, length, sym, refl, ◌∙◌}
+use Rattle.monitor.specs.Regions.{acquires_of, before_first}
 use Rattle.monitor.proofs.Bounding.{before_first_is, before_first_none}
 use Rattle.monitor.proofs.look.before_first_acquire.Goals as goal
 
-pub loop-i-preserved : goal.loop-i-preserved
-loop-i-preserved c = below_more _ _ c.loop-i.invariant (sym c.is_acquire.ensures ∙ c.if-is_acquire.false)
-
-pub returns-then-is_acquire : goal.returns-then-is_acquire
-returns-then-is_acquire c = record {
-  value = sym (before_first_is (acquires_of c.args.thread) c.args.events.now c.loop-i.i (omega arith) (sym c.is_acquire.ensures ∙ c.if-is_acquire.true) c.loop-i.invariant);
-  within = omega arith;
-}
-
-pub returns : goal.returns
-returns c = record {
-  value = sym (before_first_none (acquires_of c.args.thread) c.args.events.now (λ j lt. c.loop-i.invariant j (omega arith)));
-  within = omega arith;
-}
+pub returns-clause-value : goal.returns-clause-value
+returns-clause-value c = found c.position.result refl
+  where
+    found : (o : Option ℕ) → c.position.result ≡ o → c.unwrap_or.result ≡ before_first (acquires_of c.args.thread) c.args.events.now
+    found None none =
+        let end : c.unwrap_or.result ≡ length c.args.events.now = search rules in
+        end ∙ sym (before_first_none (acquires_of c.args.thread) c.args.events.now (λ j lj. search rules))
+    found (Some i) first =
+        let here : c.unwrap_or.result ≡ i = search rules in
+        here ∙ sym (before_first_is (acquires_of c.args.thread) c.args.events.now i (search rules) (search rules) (λ j lt. search rules))

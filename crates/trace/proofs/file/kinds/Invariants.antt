@@ -1,11 +1,15 @@
-use Rattle.std.proofs.Common.{◌≡◌, ◌+◌, ◌≤◌, map, length}
+use Rattle.std.proofs.Common.{◌≡◌, ◌+◌, ◌≤◌, length}
 use Rattle.trace.specs.Entries.{shown}
-use Rattle.format.specs.Standings.{kinds_of, kind_table, written}
+use Rattle.trace.specs.Section.{laid_in}
+use Rattle.format.specs.Standings.{kind_table, written}
+use Rattle.format.proofs.Tables.{kinds_laid}
 use Rattle.trace.proofs.file.kinds.Given as goal
 
 -- what is still to be written into the table makes it the whole table
 abbrev pub invariant-loop-i : goal.invariant-loop-i
-invariant-loop-i l =
-    (length l.table ≡ 512)
-    × (length (shown l.entries) + l.i ≤ l.i-end)
-    × (written l.table l.i (kinds_of (map (λ y. y.1) (shown l.entries))) ≡ kind_table (kinds_of (map (λ y. y.1) (shown l.initial.entries))))
+invariant-loop-i l = record {
+  can : (goal.iterator-loop-i).can_next l.i-iterator;
+  finite : (goal.iterator-loop-i).is_finite l.i-iterator;
+  few : length (shown l.i-iterator.iter) + l.i-iterator.count ≤ 512;
+  whole : written l.table l.i-iterator.count (kinds_laid (shown l.i-iterator.iter)) ≡ kind_table (kinds_laid (laid_in l.fn.objects));
+}

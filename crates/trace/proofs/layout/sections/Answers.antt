@@ -47,5 +47,5 @@ returns c =
         variables_count = c.in_ok-variables.ensures.count;
       };
       few = c.in_ok-objects.ensures.few.1;
-      size = c.in_ok-events.ensures.size;
+      size = c.in_ok-events.ensures.size.0;
     }

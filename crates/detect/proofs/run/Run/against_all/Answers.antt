@@ -1,9 +1,8 @@
-use Rattle.std.proofs.Common.{◌≡◌, ◌<◌, sym, ap, subst, arith}
+use Rattle.std.proofs.Common.{◌<◌, sym, ap, arith}
 use Rattle.event.specs.declared.counts.Counts.{Counts}
 use Rattle.finds.proofs.Pushes.{below_none, below_more}
 use Rattle.detect.proofs.Asides.{aside_none, aside_more, ready_aside}
 use Rattle.detect.proofs.Offering.{offered_none, offered_as, offered_more}
-use Rattle.detect.proofs.run.Run.against_all.Invariants.{Kept}
 use Rattle.detect.proofs.run.Run.against_all.Goals as goal
 
 pub loop-thread-init : goal.loop-thread-init
@@ -21,10 +20,3 @@ loop-thread-preserved g c =
           let lt : n < (g.S.Source.counts c.loop-thread.self.source.now).threads = omega (arith, c.loop-thread-test.true, c.threads-threads.ensures, counts, same) in
           offered_as (sym (below_more n T c.args.later)) (offered_more (inv.1 T r a) inv.0.capacity (did.offers T (ready_aside inv.0 r) a lt)),
     )
-
-pub returns : goal.returns
-returns g c =
-    let counts = ap (λ (d : Counts). d.threads) c.counts.ensures in
-    let end : c.loop-thread.thread ≡ (g.S.Source.counts c.args.self.now.source.now).threads = omega (arith, c.loop-thread-test.false, c.loop-thread.auto.thread-end, c.threads-threads.ensures, counts) in
-    let done = subst (Kept g c.args.self.now c.loop-thread.self c.args.later) end c.loop-thread.invariant in
-    record { aside = done.0; offers = done.1 }

@@ -1,9 +1,6 @@
 use Rattle.std.proofs.Common.{arith}
-use Rattle.detect.proofs.Going.{keeps_none, keeps_more, on_none, on_more, goes_spent, goes_ended, goes_refused}
+use Rattle.detect.proofs.Going.{keeps_more, on_more, goes_spent, goes_stopped}
 use Rattle.detect.proofs.run.Run.go.Goals as goal
-
-pub loop-turn-init : goal.loop-turn-init
-loop-turn-init g c = (keeps_none _, λ h e. on_none _ _ _ _ e h)
 
 pub loop-turn-preserved : goal.loop-turn-preserved
 loop-turn-preserved g c =
@@ -13,32 +10,13 @@ loop-turn-preserved g c =
       λ h e. on_more g.S.Source g.K.Keeper g.O.Sink _ _ _ _ did.did.2.0 inv.0 (inv.1 h e) did.did.1 did.did.2.1,
     )
 
-pub returns-in-Ended : goal.returns-in-Ended
-returns-in-Ended g c =
+pub returns-in_default-clause-goes : goal.returns-in_default-clause-goes
+returns-in_default-clause-goes g c = λ h e.
     let inv = c.loop-turn.invariant in
-    let did = c.in-Ended.ensures in
-    record {
-      keeps = keeps_more inv.0 did.keeps;
-      goes = λ h e.
-          let on = inv.1 h e in
-          goes_ended g.S.Source g.K.Keeper g.O.Sink _ _ _ _ inv.0 on _ did.did.0 c.loop-turn-test.true (did.did.2 on.ended) did.did.1;
-    }
+    goes_stopped g.S.Source g.K.Keeper g.O.Sink _ _ _ _ inv.0 (inv.1 h e) _ c.step.result c.loop-turn-test.true c.in_default.not-Told c.step.ensures.did
 
-pub returns-in-Refused : goal.returns-in-Refused
-returns-in-Refused g c =
-    let inv = c.loop-turn.invariant in
-    let did = c.in-Refused.ensures in
-    record {
-      keeps = keeps_more inv.0 did.keeps;
-      goes = λ h e.
-          let on = inv.1 h e in
-          goes_refused g.S.Source g.K.Keeper g.O.Sink _ _ _ _ inv.0 on _ did.did.0 c.loop-turn-test.true did.did.2.0 did.did.2.1 (did.did.3 on.told on.going).1;
-    }
+pub returns-in_default-clause-keeps : goal.returns-in_default-clause-keeps
+returns-in_default-clause-keeps g c = keeps_more c.loop-turn.invariant.0 c.step.ensures.keeps
 
-pub returns : goal.returns
-returns g c =
-    let inv = c.loop-turn.invariant in
-    record {
-      keeps = inv.0;
-      goes = λ h e. goes_spent g.S.Source g.K.Keeper g.O.Sink _ _ _ _ inv.0 (inv.1 h e) (omega arith);
-    }
+pub returns-clause-goes : goal.returns-clause-goes
+returns-clause-goes g c = λ h e. let inv = c.loop-turn.invariant in goes_spent g.S.Source g.K.Keeper g.O.Sink _ _ _ _ inv.0 (inv.1 h e) (omega arith)

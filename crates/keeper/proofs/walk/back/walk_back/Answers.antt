@@ -1,64 +1,82 @@
-use Rattle.std.proofs.Common.{◌≡◌, suc, ◌-◌, true, false, length, get_or, set, sym, ap, ◌∙◌, subst, subst₂, arith}
+use Rattle.std.proofs.Common.{◌≡◌, true, false, length, get_or, set, sym, ap, ◌∙◌, subst, subst₂}
+use Rattle.std.specs.Iterator.Adapters.{rev_source}
 use Rattle.std.specs.Option.{option_map}
-use Rattle.event.specs.Entries.{IsEntry}
+use Rattle.std.specs.Slice.Iter.{iter_rest}
+use Rattle.event.specs.declared.record.Event.{Event}
+use Rattle.event.specs.Objects.{acquired}
 use Rattle.order.proofs.Places.{blank}
 use Rattle.stamp.specs.Slots.{slot}
 use Rattle.keeper.specs.Walks.{flag, leads}
-use Rattle.keeper.proofs.Walking.{Met, met_none, met_skip, met_more, met_found, met_all}
+use Rattle.keeper.proofs.Walking.{Met, all_ahead, last_ahead, met_none, met_skip, met_more, met_found, met_all}
 use Rattle.keeper.proofs.walk.back.walk_back.Goals as goal
 
-pub loop-i-init : goal.loop-i-init
-loop-i-init c = λ p q sound lt lu.
-    let es = c.args.told.now in
-    subst₂ (λ ts os. Met c.args.counts es c.args.t c.args.u (length es) ts os) (sym p) (sym q) (met_none c.args.counts es sound c.args.t c.args.u lt)
-
-pub loop-i-preserved : goal.loop-i-preserved
-loop-i-preserved c = λ p q sound lt lu.
+pub loop-e-init : goal.loop-e-init
+loop-e-init c =
     let counts = c.args.counts in
     let es = c.args.told.now in
-    let ts = c.loop-i.threads in
-    let os = c.loop-i.objects in
-    let i = c.loop-i.i - 1 in
-    let back : suc i ≡ c.loop-i.i = omega arith in
-    let met = subst (λ k. Met counts es c.args.t c.args.u k ts os) (sym back) (c.loop-i.invariant p q sound lt lu) in
-    let step : leads counts ts os (get_or es i blank) ≡ false = sym c.leads.ensures ∙ c.if-leads.false in
-    met_skip counts es sound c.args.t c.args.u i (omega arith) ts os met step
+    let all : iter_rest (rev_source c.into_iter-e-iterator.result) ≡ es =
+    ap (λ s. iter_rest (rev_source s)) c.into_iter-e-iterator.ensures.into_iter_gives ∙ ap iter_rest c.rev-e-items.ensures.source ∙ c.iter.ensures.rest in
+    record {
+      split = all_ahead es _ all;
+      met = λ p q sound lt lu. rw (all, p, q) (met_none counts es sound c.args.t c.args.u lt);
+    }
 
-pub loop-i-preserved-then-leads : goal.loop-i-preserved-then-leads
-loop-i-preserved-then-leads c = λ p q sound lt lu.
+pub loop-e-preserved : goal.loop-e-preserved
+loop-e-preserved c =
     let counts = c.args.counts in
     let es = c.args.told.now in
-    let ts = c.loop-i.threads in
-    let os = c.loop-i.objects in
-    let i = c.loop-i.i - 1 in
+    let ts = c.loop-e.threads in
+    let os = c.loop-e.objects in
+    let i = length (iter_rest (rev_source c.next.new.self)) in
+    let last = last_ahead es _ _ c.in-Some.e.now c.loop-e.invariant.split c.in-Some.ensures.steps in
+    record {
+      split = last.split;
+      met = λ p q sound lt lu.
+          let met = subst (λ k. Met counts es c.args.t c.args.u k ts os) last.long (c.loop-e.invariant.met p q sound lt lu) in
+          let step : leads counts ts os (get_or es i blank) ≡ false = rw last.here at (sym c.leads.ensures ∙ c.if-leads.false) in
+          met_skip counts es sound c.args.t c.args.u i last.within ts os met step;
+    }
+
+pub loop-e-preserved-then-leads : goal.loop-e-preserved-then-leads
+loop-e-preserved-then-leads c =
+    let counts = c.args.counts in
+    let es = c.args.told.now in
+    let ts = c.loop-e.threads in
+    let os = c.loop-e.objects in
+    let i = length (iter_rest (rev_source c.next.new.self)) in
     let e = get_or es i blank in
-    let back : suc i ≡ c.loop-i.i = omega arith in
-    let met = subst (λ k. Met counts es c.args.t c.args.u k ts os) (sym back) (c.loop-i.invariant p q sound lt lu) in
-    let step : leads counts ts os e ≡ true = sym c.leads.ensures ∙ c.if-leads.true in
-    let threads = c.flag-then-leads.ensures ∙ ap (λ k. set ts k true) c.from-then-leads.ensures in
-    let objects = c.flag-then-leads-2.ensures ∙ ap (flag os) (c.slot_of.ensures ∙ ap (option_map (slot counts)) c.acquires.ensures) in
-    subst₂ (λ l m. Met counts es c.args.t c.args.u i l m) (sym threads) (sym objects)
-    (met_more counts es sound c.args.t c.args.u i (omega arith) ts os met step (λ s. c.if-from-u.false (c.from.ensures ∙ s)))
+    let last = last_ahead es _ _ c.in-Some.e.now c.loop-e.invariant.split c.in-Some.ensures.steps in
+    record {
+      split = last.split;
+      met = λ p q sound lt lu.
+          let met = subst (λ k. Met counts es c.args.t c.args.u k ts os) last.long (c.loop-e.invariant.met p q sound lt lu) in
+          let step : leads counts ts os e ≡ true = rw last.here at (sym c.leads.ensures ∙ c.if-leads.true) in
+          let thread : c.from.result ≡ e.thread = c.from.ensures ∙ ap (λ (v : Event). v.thread) last.here in
+          let threads = c.flag-then-leads.ensures ∙ ap (λ k. set ts k true) (c.from-then-leads.ensures ∙ ap (λ (v : Event). v.thread) last.here) in
+          let objects = c.flag-then-leads-2.ensures ∙ ap (flag os) (c.slot_of.ensures ∙ ap (option_map (slot counts)) (c.acquires.ensures ∙ ap acquired last.here)) in
+          subst₂ (λ l m. Met counts es c.args.t c.args.u i l m) (sym threads) (sym objects)
+          (met_more counts es sound c.args.t c.args.u i last.within ts os met step (λ s. c.if-from-u.false (thread ∙ s)));
+    }
 
 pub returns-then-from-u : goal.returns-then-from-u
 returns-then-from-u c = λ p q sound lt lu.
     let counts = c.args.counts in
     let es = c.args.told.now in
-    let ts = c.loop-i.threads in
-    let os = c.loop-i.objects in
-    let i = c.loop-i.i - 1 in
-    let back : suc i ≡ c.loop-i.i = omega arith in
+    let ts = c.loop-e.threads in
+    let os = c.loop-e.objects in
+    let i = length (iter_rest (rev_source c.next.new.self)) in
+    let e = get_or es i blank in
+    let last = last_ahead es _ _ c.in-Some.e.now c.loop-e.invariant.split c.in-Some.ensures.steps in
     let begun = c.flag.ensures ∙ ap (λ l. set l c.args.t true) p in
-    let met = subst (λ k. Met counts es c.args.t c.args.u k ts os) (sym back) (c.loop-i.invariant begun q sound lt lu) in
-    let step : leads counts ts os (get_or es i blank) ≡ true = sym c.leads.ensures ∙ c.if-leads.true in
-    subst (λ n. IsEntry es c.args.t c.args.u n) (sym c.saturating_add.ensures)
-    (met_found counts es sound c.args.t c.args.u i (omega arith) ts os met step (sym c.from.ensures ∙ c.if-from-u.true))
+    let met = subst (λ k. Met counts es c.args.t c.args.u k ts os) last.long (c.loop-e.invariant.met begun q sound lt lu) in
+    let step : leads counts ts os e ≡ true = rw last.here at (sym c.leads.ensures ∙ c.if-leads.true) in
+    let thread : e.thread ≡ c.args.u = sym (c.from.ensures ∙ ap (λ (v : Event). v.thread) last.here) ∙ c.if-from-u.true in
+    rw (c.saturating_add.ensures, last.here) (met_found counts es sound c.args.t c.args.u i last.within ts os met step thread)
 
 pub returns : goal.returns
 returns c = λ p q sound lt lu.
     let counts = c.args.counts in
     let es = c.args.told.now in
     let begun = c.flag.ensures ∙ ap (λ l. set l c.args.t true) p in
-    let met = c.loop-i.invariant begun q sound lt lu in
-    let zero : c.loop-i.i ≡ 0 = omega arith in
-    met_all counts es sound c.args.t c.args.u c.loop-i.threads c.loop-i.objects (subst (λ k. Met counts es c.args.t c.args.u k c.loop-i.threads c.loop-i.objects) zero met)
+    let met = c.loop-e.invariant.met begun q sound lt lu in
+    met_all counts es sound c.args.t c.args.u c.loop-e.threads c.loop-e.objects (rw c.in-None.ensures.steps.0 at met)

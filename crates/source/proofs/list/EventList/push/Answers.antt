@@ -1,5 +1,4 @@
-use Rattle.std.proofs.Common.{is_ok, sym, refl, ap}
-use Rattle.std.proofs.lemmas.Result.{err_from_is_err_and}
+use Rattle.std.proofs.Common.{is_ok, sym, ap, rules}
 use Rattle.event.proofs.Offering.{offered_room, offered_sound, offered_exactly}
 use Rattle.event.proofs.Sounds.{sound_held}
 use Rattle.source.specs.Listed.{listed, capacity}
@@ -14,31 +13,10 @@ append-requires c =
       sound = offered_sound l.counts (capacity l) (listed l) c.args.e (sound_held l.counts (listed l) l.sound) took;
     }
 
-pub returns-in_err-check : goal.returns-in_err-check
-returns-in_err-check c =
+pub returns-in_err-check-clause-exactly : goal.returns-in_err-check-clause-exactly
+returns-in_err-check-clause-exactly c =
     let l = c.args.self.now in
-    let answer = c.in_err-check.ensures in
-    let p = err_from_is_err_and c.from_residual.result c.from_residual.ensures.1 in
-    rw (p.1, p.2)
-    record {
-      answer = answer;
-      exactly = offered_exactly l.counts (capacity l) (listed l) c.args.e answer (sound_held l.counts (listed l) l.sound);
-      events = refl;
-      entries = refl;
-      counts = refl;
-      lender = refl;
-    }
+    offered_exactly l.counts (capacity l) (listed l) c.args.e {r = c.from_residual.result} (search rules) (sound_held l.counts (listed l) l.sound)
 
-pub returns : goal.returns
-returns c =
-    let l = c.args.self.now in
-    let answer = c.in_ok-check.ensures in
-    let made = c.append.ensures in
-    record {
-      answer = answer;
-      exactly = offered_exactly l.counts (capacity l) (listed l) c.args.e answer (sound_held l.counts (listed l) l.sound);
-      events = made.events;
-      entries = made.entries;
-      counts = made.counts;
-      lender = made.lender;
-    }
+pub returns-clause-exactly : goal.returns-clause-exactly
+returns-clause-exactly c = let l = c.args.self.now in offered_exactly l.counts (capacity l) (listed l) c.args.e c.in_ok-check.ensures (sound_held l.counts (listed l) l.sound)

@@ -1,12 +1,10 @@
-use Rattle.std.proofs.Common.{sym, refl, subst}
+use Rattle.std.proofs.Common.{◌≡◌, slice_index, sym, subst, arith}
+use Rattle.std.proofs.lemmas.Grind.{common_steps}
 use Rattle.stamp.specs.Clocks.{TellsEntry}
-use Rattle.stamp.specs.ClocksLemmas.{at_past, tells_entry}
+use Rattle.stamp.specs.ClocksLemmas.{tells_entry}
 use Rattle.stamp.proofs.clock.Clock.entry.Goals as goal
 
-pub returns-then-thread-lt16 : goal.returns-then-thread-lt16
-returns-then-thread-lt16 c = record { value = refl; entry = tells_entry c.args.self.now c.args.thread }
-
-pub returns-else-thread-lt16 : goal.returns-else-thread-lt16
-returns-else-thread-lt16 c =
-    let none = at_past c.args.self.now c.args.thread c.if-thread-lt16.false in
-    record { value = none; entry = subst (λ n. TellsEntry c.args.self.now c.args.thread n) (sym none) (tells_entry c.args.self.now c.args.thread) }
+pub returns-clause-entry : goal.returns-clause-entry
+returns-clause-entry c =
+    let value : c.unwrap_or.result ≡ slice_index c.args.self.now.entries c.args.thread = grind (arith, common_steps) in
+    subst (λ n. TellsEntry c.args.self.now c.args.thread n) (sym value) (tells_entry c.args.self.now c.args.thread)

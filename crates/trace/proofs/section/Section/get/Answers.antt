@@ -7,5 +7,5 @@ use Rattle.trace.proofs.section.Section.get.Goals as goal
 
 pub returns : goal.returns
 returns c =
-    nth_from_yields_List {steps = Stepped} c.nth.result c.nth.new.self c.args.index c.nth.ensures.ran (YieldsList-from_shown Stepped spot_of shown (λ s t h. ap length h) (λ s x t h. h) c.entries.result)
+    nth_from_yields_List {steps = Stepped} c.nth.result c.nth.new.self c.args.index c.nth.ensures.ran (YieldsList-from_shown Stepped spot_of shown (λ s t h. ap length h.0) (λ s x t h. h) c.entries.result)
     ∙ ap (λ l. slice_get l c.args.index) c.entries.ensures

@@ -15,8 +15,8 @@ returns c =
     let u = c.args.u in
     let n = c.entry.result in
     let both = none_undeclared counts t u (sym c.in_ok-declared.was ∙ c.declared.ensures ∙ ap (λ d. unless (undeclared d t u) tt) c.counts.ensures) in
-    let found : (es : List Event) → Clocked counts me.threads.now me.objects.now me.told me.last es → IsEntry es t u n = λ es h.
-    clocked_entry counts me.threads.now me.objects.now me.told me.last es t u n c.copy_out-clock.result h both.1 both.2 c.copy_out-clock.ensures c.entry.ensures.entry in
+    let found : (es : List Event) → Clocked counts me.told me.threads.now me.objects.now es → IsEntry es t u n = λ es h.
+    clocked_entry counts me.told me.threads.now me.objects.now es t u n c.copy_out.result h both.1 both.2 c.copy_out.ensures c.entry.ensures.entry in
     record {
       undeclared_only = both.0;
       answer = λ es h. asked counts es t u n both.0 (entry_computed counts many es t u n h.fits (found es h));

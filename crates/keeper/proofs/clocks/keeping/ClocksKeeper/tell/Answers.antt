@@ -1,30 +1,29 @@
 use Rattle.std.proofs.Common.{◌≡◌, length, Ok, sym, refl, ap, ◌∙◌, ap₂}
+use Rattle.event.specs.Intakes.{added, admitting}
+use Rattle.stamp.specs.Clocks.{later, zeros, tick}
 use Rattle.stamp.specs.Slots.{lacking}
+use Rattle.stamp.specs.Tables.{threads_after, objects_after}
 use Rattle.keeper.specs.Kept.{counts_of, many}
-use Rattle.keeper.specs.Telling.{admitting}
-use Rattle.keeper.proofs.Clocking.{clocked_told, length_threads, length_objects}
-use Rattle.keeper.proofs.Telling.{admitted, telling_same}
+use Rattle.keeper.proofs.Clocking.{clocked_push, length_threads, length_objects}
+use Rattle.keeper.proofs.Telling.{telling_same}
 use Rattle.keeper.proofs.clocks.keeping.ClocksKeeper.tell.Goals as goal
 
-pub returns : goal.returns
-returns c =
+pub returns-clause-tells : goal.returns-clause-tells
+returns-clause-tells c =
     let me = c.args.self.now in
-    let after = c.carry.new.self in
     let counts = counts_of me.plain in
+    let ts = me.threads.now in
+    let os = me.objects.now in
     let e = c.args.e in
-    let ok : Ok tt ≡ admitting counts many me.told me.last e = sym c.in_ok-admit.was ∙ c.admit.ensures ∙ ap (λ d. admitting d many me.told me.last e) c.counts.ensures in
-    let same : counts_of after.plain ≡ counts = ap counts_of c.carry.ensures.plain in
+    let ok : Ok tt ≡ admitting counts many me.told.taken me.told.last e = sym c.in_ok-take.was ∙ c.take.ensures.answer ∙ ap (λ d. admitting d many me.told.taken me.told.last e) c.counts-counts.ensures in
+    let taken : c.take.new.self ≡ added me.told e = rw c.in_ok-take.was at c.take.ensures.taken in
+    let threads : c.carry.new.threads ≡ threads_after later zeros counts ts os e (tick e) = c.carry.ensures.threads ∙ ap₂ (λ d x. threads_after later zeros d ts os e x) c.counts-counts.ensures c.tick.ensures in
+    let objects : c.carry.new.objects ≡ objects_after later zeros counts ts os e (tick e) = c.carry.ensures.objects ∙ ap₂ (λ d x. objects_after later zeros d ts os e x) c.counts-counts.ensures c.tick.ensures in
     record {
-      tells = record {
-        answer = λ es h. ok ∙ telling_same counts many me.told me.last e es h.count h.latest;
-        more = λ es h.
-            clocked_told counts (counts_of after.plain) me.threads.now me.objects.now after.threads.now after.objects.now me.told after.told me.last e es
-            same c.carry.ensures.told c.carry.ensures.threads c.carry.ensures.objects (admitted counts many me.told me.last e ok) h;
-        kept = tt;
-        same_counts = same;
-        same_capacity = refl;
-        same_tables = λ d. ap₂ (lacking d) (ap length c.carry.ensures.threads ∙ length_threads counts me.threads.now me.objects.now e) (ap length c.carry.ensures.objects ∙ length_objects counts me.threads.now me.objects.now e);
-      };
-      threads = c.carry.ensures.threads;
-      objects = c.carry.ensures.objects;
+      answer = λ es h. ok ∙ telling_same counts many me.told e es h.took;
+      more = λ es h. rw taken (clocked_push counts me.told ts os _ _ e es threads objects ok h);
+      kept = tt;
+      same_counts = refl;
+      same_capacity = refl;
+      same_tables = λ d. ap₂ (lacking d) (ap length threads ∙ length_threads counts ts os e) (ap length objects ∙ length_objects counts ts os e);
     }

@@ -1,6 +1,0 @@
-use Rattle.std.proofs.Common.{refl, rules}
-use Rattle.std.proofs.lemmas.List.{take_rest}
-use Rattle.trace.proofs.bytes.Reader.four.Goals as goal
-
-pub returns-in-len4-up : goal.returns-in-len4-up
-returns-in-len4-up c = record { value = rw take_rest (search rules); total = refl }
