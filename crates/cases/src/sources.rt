@@ -8,6 +8,7 @@ use trace::{Trace, read};
 // the places that a source hands out, as the ones of a number; places above 63 count as 63
 fn places<S: Source>(source: &mut S) -> u64 {
     let mut mask = 0u64;
+    // A source is no `Iterator`: it is asked, at most so many times.
     for _ in 0..64 {
         match source.next() {
             Some(e) => mask |= 1u64 << e.place.min(63),

@@ -13,6 +13,7 @@ use std::alloc::{AllocError, Global};
 use trace::read;
 
 // The text to print: a list, or the line of a refusal.
+// No `Result`: both are answers, printed alike, and neither is a failure of the call. That fails where memory runs out.
 #[derive(Drop)]
 pub enum Answer {
     Listed(Vec<u8>),
