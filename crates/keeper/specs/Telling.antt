@@ -6,7 +6,6 @@ use Rattle.event.specs.declared.fault.CallerFault.{CallerFault}
 use Rattle.event.specs.declared.fault.CallerFault.TheVariants.{Thread}
 use Rattle.event.specs.declared.record.Event.{Event}
 pub use Rattle.event.specs.Intakes.{last_place, follows, admitting}
-use Rattle.event.specs.Answers.{answered}
 use Rattle.event.specs.Thins.{Sound}
 use Rattle.order.specs.Marks.{entry}
 use Rattle.stamp.specs.Slots.{unless_lacking}

@@ -1,18 +1,13 @@
 -- A line that is written behind the others.
-use Rattle.std.proofs.Common.{◌≡◌, ℕ, ◌+◌, ◌*◌, ◌/◌, ◌<◌, List, ◌++◌, length, take, drop, sym, refl, ap, ◌∙◌, append_assoc, arith, length-append, length-drop, take-append-drop}
+use Rattle.std.proofs.Common.{◌≡◌, ℕ, ◌+◌, ◌*◌, ◌/◌, ◌<◌, List, ◌++◌, length, take, drop, sym, refl, ap, ◌∙◌, append_assoc, arith, length-append, length-drop}
 use borrow.Rule.Slice.PartMut.{put_mid}
 use Rattle.std.proofs.lemmas.List.{drop-drop, length-take-le, take_at, drop_at}
-use Rattle.sink.specs.declared.lines.Lines.{Lines}
 use Rattle.sink.specs.declared.pair.Pair.{Pair}
 use Rattle.sink.specs.Line.{line, overwritten}
-use Rattle.sink.specs.Written.{Written, written}
+use Rattle.sink.specs.Written.{Written}
 
 pub same_written : (n : ℕ) {a b c d : List ℕ} → a ≡ b → c ≡ d → ◌≡◌ {A = Written} (record { lender = n; lines = a; space = c }) (record { lender = n; lines = b; space = d })
 same_written n p q = cc
-
--- the lent bytes are the lines and then the space
-pub all_bytes : (s : Lines) → s.bytes.now ≡ (written s).lines ++ (written s).space
-all_bytes s = sym (take-append-drop (s.taken * 21) s.bytes.now)
 
 -- what a write to the part of 21 bytes behind n lines leaves
 pub put_line : (at k n : ℕ) (p : Pair) (bytes l : List ℕ) → at ≡ n * 21 → k ≡ 21 → l ≡ line p → put_mid at k bytes l ≡ overwritten n p bytes

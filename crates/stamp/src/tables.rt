@@ -69,7 +69,7 @@ pub fn start<S: Stamp>(
 }
 
 // Carries an event with its contribution through both tables.
-pub fn carry<S: Stamp>(
+fn carry<S: Stamp>(
     counts: Counts,
     threads: &mut [S],
     objects: &mut [S],

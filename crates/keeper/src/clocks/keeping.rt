@@ -2,7 +2,7 @@
 ghost use Rattle.std.specs.Prelude.{◌≡◌, [], length, is_ok, if◌then◌else◌, IfOk};
 ghost use Rattle.stamp.specs.Clocks.{later, zeros, tick};
 ghost use Rattle.stamp.specs.Slots.{slots, starting};
-ghost use Rattle.stamp.specs.Tables.{cleared, threads_after, objects_after};
+ghost use Rattle.stamp.specs.Tables.{cleared, stamp_after, threads_after, objects_after};
 ghost use Rattle.keeper.specs.Kept.{clocks_counts, clocks_capacity, clocks_lacks, clocks_told};
 ghost use Rattle.keeper.specs.Meaning.{Clears, Tells};
 ghost use Rattle.event.specs.Answers.{answered};
@@ -13,8 +13,9 @@ use crate::keeper::Keeper;
 use crate::plain::PlainCounts;
 use event::intake::LAST_PLACE;
 use event::{CallerFault, Counts, Event, Intake};
-use stamp::Clock;
-use stamp::tables::{carry, copy_out, start};
+use stamp::slots::slot_of;
+use stamp::tables::{acquire, copy_out, release, start, write_back};
+use stamp::{Clock, Stamp};
 
 // An event for each place.
 const CAPACITY: usize = LAST_PLACE as usize + 1;
@@ -39,6 +40,29 @@ impl<'a> Clocks<'a> {
             threads,
             objects,
         })
+    }
+
+    // The clock of the event's thread after the event.
+    fn clock_after(&self, e: Event) -> Clock
+        ensures { result ≡ stamp_after later zeros (clocks_counts self.now) self.now.threads.now self.now.objects.now e (tick e) }
+    {
+        let before = copy_out(self.threads, usize::from(e.thread));
+        let slot = slot_of(self.plain.counts(), e.acquires());
+        acquire(self.objects, slot, before).join(Clock::tick(e))
+    }
+
+    // Carries an event through both tables. By a rule of the project the keeper, which holds both, copies the thread's clock out, calls the parts of
+    // the stamps' text, each of which takes one table, and writes the clock back.
+    fn carry(&mut self, e: Event)
+        ensures threads { self.new.threads.now ≡ threads_after later zeros (clocks_counts self.old) self.old.threads.now self.old.objects.now e (tick e) }
+        ensures objects { self.new.objects.now ≡ objects_after later zeros (clocks_counts self.old) self.old.threads.now self.old.objects.now e (tick e) }
+        ensures plain { self.new.plain ≡ self.old.plain }
+        ensures told { self.new.told ≡ self.old.told }
+    {
+        let clock = self.clock_after(e);
+        let slot = slot_of(self.plain.counts(), e.releases());
+        release(self.objects, slot, clock);
+        write_back(self.threads, usize::from(e.thread), clock);
     }
 }
 
@@ -78,14 +102,17 @@ impl<'a> Keeper for Clocks<'a> {
         ensures threads { self.new.threads.now ≡ (if is_ok result then threads_after later zeros (clocks_counts self.old) self.old.threads.now self.old.objects.now e (tick e) else self.old.threads.now) }
         ensures objects { self.new.objects.now ≡ (if is_ok result then objects_after later zeros (clocks_counts self.old) self.old.threads.now self.old.objects.now e (tick e) else self.old.objects.now) }
     {
-        let counts = self.plain.counts();
-        self.told.take(counts, CAPACITY, e)?;
-        carry(counts, self.threads, self.objects, e, Clock::tick(e));
+        self.told.take(self.plain.counts(), CAPACITY, e)?;
+        self.carry(e);
         Ok(())
     }
 
     fn ask(&self, t: usize, u: usize) -> Result<u32, CallerFault> {
         declared(self.plain.counts(), t, u)?;
-        Ok(copy_out(self.threads, t).entry(u))
+        // The clock is read where it stands, and not copied out: a run asks for each access and each other thread.
+        let Some(clock) = self.threads.get(t) else {
+            return Ok(0);
+        };
+        Ok(clock.entry(u))
     }
 }

@@ -1,6 +1,5 @@
-use Rattle.std.proofs.Common.{refl}
 use Rattle.event.proofs.Same.{counted_own}
 use Rattle.event.proofs.counts.Counts.new.Goals as goal
 
-pub returns : goal.returns
-returns c = record { value = counted_own _; same = (refl, refl, refl) }
+pub returns-clause-value : goal.returns-clause-value
+returns-clause-value c = counted_own _
