@@ -30,7 +30,7 @@ pub struct UnknownLetter {
 }
 
 impl Letter {
-    // The letter's byte in a trace file.
+    // The letter's byte in a trace file: a number, since the format has one. `u8::from` calls this.
     pub fn code(self) -> u8
         ensures { result ≡ code self }
     {

@@ -4,7 +4,7 @@ use event::{Counts, Event, Intake};
 pub mod back;
 pub mod keeping;
 
-// What was told, and the events of it at the list's front.
+// What was told, and the events of it at the list's front. The list is the caller's, lent as all tables are, and no `Vec`.
 #[derive(Drop)]
 pub struct Walk<'a> {
     counts: Counts,

@@ -28,7 +28,7 @@ impl Level {
         }
     }
 
-    // 0 for none, 1 for weak, 2 for strong.
+    // 0 for none, 1 for weak, 2 for strong: the place in the derived order, for a caller who wants a number.
     pub fn rank(self) -> u8
         ensures { result ≡ rank self }
     {

@@ -33,7 +33,7 @@ pub fn room(counts: Counts, levels: usize) -> Result<(), CallerFault>
     Ok(())
 }
 
-// The level of a thread on a variable, none past the table's end.
+// The level of a thread on a variable, none past the table's end. Reading asks for no more than a shared slice, so it stands apart from `Levels`.
 pub fn get(counts: Counts, levels: &[Level], thread: u8, variable: u16) -> Level
     ensures { result ≡ slice_index_or levels.now (slot counts thread variable) none }
 {
