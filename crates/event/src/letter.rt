@@ -1,7 +1,6 @@
 // What an event does.
-ghost use Rattle.std.specs.Prelude.{◌≡◌, Some, ok_or, codes, ◌++◌, decimal};
-ghost use Rattle.event.specs.declared.letter.UnknownLetter.{UnknownLetter};
-ghost use Rattle.event.specs.Letters.{code, letter_at, SpellsLetter};
+ghost use Rattle.std.specs.Prelude.{◌≡◌};
+ghost use Rattle.event.specs.Letters.{code, SpellsLetter};
 
 use std::error::Error;
 use std::fmt;
@@ -85,8 +84,6 @@ impl TryFrom<u8> for Letter {
 }
 
 impl fmt::Display for UnknownLetter {
-    ghost output = { λ u. Some (codes "no letter has the byte " ++ decimal u.byte) };
-
     fn fmt<W: fmt::Write>(&self, f: &mut fmt::Formatter<W>) -> fmt::Result {
         write!(f, "no letter has the byte {}", self.byte)
     }
