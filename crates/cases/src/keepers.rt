@@ -1,6 +1,6 @@
 // Both keepers on worked examples: the same entries, and the expected ones.
-use crate::script::{NOTHING, file, refusal};
-use event::{Event, Fault, Letter};
+use crate::script::{NOTHING, SETPOINT, file, refusal};
+use event::{Event, Letter};
 use keeper::{Clocks, Keeper, Walk};
 use stamp::tables::{hand_in, start};
 use stamp::{Clock, Reach, Stamp};
@@ -45,8 +45,6 @@ fn reached(rt: &impl Abort, t: &Trace<'_>, thread: usize) -> Result<u32, Fail> {
     assert!(rt; thread < 16);
     Ok(threads[thread].size())
 }
-
-const SETPOINT: &str = "0f1 1b1 0a0 0w0 0l0 1r0 1a0 1w0 1l0 0w0";
 
 const FORKED: &str = "0w0 0f1 1b1 1w0";
 
@@ -159,17 +157,15 @@ fn small_tables(rt: HostRuntime) -> Result<(), Fail> {
         Clocks::new(t.counts(), &mut two, &mut five).is_ok(),
         "just large enough"
     );
-    match Clocks::new(t.counts(), &mut one, &mut four) {
-        Ok(_) => return Err(Fail::new("a table of one thread")),
-        Err(f) => assert_eq!(rt; (f.number(), f.place()), (12, 2), "threads first"),
-    }
-    match Clocks::new(t.counts(), &mut two, &mut four) {
-        Ok(_) => return Err(Fail::new("a table of four objects")),
-        Err(f) => assert_eq!(rt;
-            (f.number(), f.place()),
-            (12, 5),
-            "objects and two for each thread"
-        ),
-    }
+    assert_eq!(rt;
+        refusal(Clocks::new(t.counts(), &mut one, &mut four)),
+        (12, 2),
+        "threads first"
+    );
+    assert_eq!(rt;
+        refusal(Clocks::new(t.counts(), &mut two, &mut four)),
+        (12, 5),
+        "objects and two for each thread"
+    );
     Ok(())
 }

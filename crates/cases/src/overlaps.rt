@@ -1,7 +1,7 @@
 // Which overlaps of monitors are reported, and in which order.
-use crate::script::{NOTHING, file};
+use crate::script::{NOTHING, file, verdict};
 use detect::{Totals, report};
-use event::{CallerFault, Fault};
+use event::CallerFault;
 use monitor::{Level, PlacementFault};
 use sink::Lines;
 use source::EventList;
@@ -106,13 +106,11 @@ fn a_placement_that_is_refused(rt: HostRuntime) -> Result<(), Fail> {
     let bytes = file(rt.alloc(), 3, "s", 2, "0f1 1b1 0M0 0w0 1N0 1r0 0l0 0Q0 1Q0")?;
     let t = read(&bytes)?;
     let mut lines = [b'.'; 63];
-    match reported(&t, &mut lines) {
-        Ok(_) => {
-            assert!(rt; false, "the release ends the write's region");
-            return Ok(())
-        },
-        Err(f) => assert_eq!(rt; (f.number(), f.layer(), f.place()), (11, 5, 7)),
-    }
+    assert_eq!(rt;
+        verdict(reported(&t, &mut lines)),
+        (11, 5, 7),
+        "the release ends the write's region"
+    );
     assert!(rt; lines == [b'.'; 63], "no line");
     Ok(())
 }

@@ -1,5 +1,5 @@
 // Whole runs: both keepers, filters, sinks of every room, a keeper that is full midway.
-use crate::script::{NOTHING, file};
+use crate::script::{NOTHING, SETPOINT, file};
 use detect::{Totals, run_all};
 use event::{CallerFault, Event, Letter};
 use keeper::{Clocks, Keeper, Walk};
@@ -49,8 +49,6 @@ fn totals(found: u64, written: u64, dropped: u64) -> Totals {
         dropped,
     }
 }
-
-const SETPOINT: &str = "0f1 1b1 0a0 0w0 0l0 1r0 1a0 1w0 1l0 0w0";
 
 // objects, script, and how many are found
 const FOUND: [(&str, &str, u64); 8] = [

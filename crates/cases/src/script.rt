@@ -12,6 +12,9 @@ pub const NOTHING: Event = Event {
     region: 0,
 };
 
+// The events of the trace in examples/setpoint.trace.
+pub const SETPOINT: &str = "0f1 1b1 0a0 0w0 0l0 1r0 1a0 1w0 1l0 0w0";
+
 // number, layer and place of the refusal, or zeros
 pub fn verdict<T: Drop, F: Fault + Drop>(r: Result<T, F>) -> (u8, u8, usize) {
     match r {
@@ -47,10 +50,11 @@ fn add_objects(file: &mut Vec<u8>, letters: &[u8]) -> Result<(), AllocError> {
 }
 
 fn add_event(file: &mut Vec<u8>, word: &[u8]) -> Result<(), AllocError> {
-    let [thread, letter, number, region @ ..] = word else {
-        return Ok(());
+    let (thread, letter, number, region) = match word {
+        [thread, letter, number] => (thread, letter, number, 0),
+        [thread, letter, number, region] => (thread, letter, number, digit(*region)),
+        _ => return Ok(()),
     };
-    let region = region.first().map_or(0, |r| digit(*r));
     file.extend_from_slice(&[*letter, digit(*thread), 0, digit(*number), 0, region])
 }
 

@@ -1,5 +1,5 @@
 // Lists and filters: what they let through.
-use crate::script::{NOTHING, file, refusal};
+use crate::script::{NOTHING, SETPOINT, file, refusal};
 use event::{CallerFault, Event, Letter};
 use source::{EventList, Picker, Sampler, Source};
 use std::test::Fail;
@@ -8,17 +8,15 @@ use trace::{Trace, read};
 // the places that a source hands out, as the ones of a number; places above 63 count as 63
 fn places<S: Source>(source: &mut S) -> u64 {
     let mut mask = 0u64;
-    // A source is no `Iterator`: it is asked, at most so many times.
+    // A `while let` over a source of any kind wants a measure, and a test has no proof.
     for _ in 0..64 {
-        match source.next() {
-            Some(e) => mask |= 1u64 << e.place.min(63),
-            None => return mask,
-        }
+        let Some(e) = source.next() else {
+            return mask;
+        };
+        mask |= 1u64 << e.place.min(63);
     }
     mask
 }
-
-const SETPOINT: &str = "0f1 1b1 0a0 0w0 0l0 1r0 1a0 1w0 1l0 0w0";
 
 // script, burst, period, and what is let through
 const SAMPLED: [(&str, u32, u32, u64); 6] = [

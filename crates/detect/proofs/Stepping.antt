@@ -1,17 +1,18 @@
 -- One event more: the run goes on with it, or the keeper was full.
-use Rattle.std.proofs.Common.{◌≡◌, ℕ, ◌≤◌, true, false, cond, ltb, List, [], ◌∷◌, ◌++◌, length, drop, Err, sym, ap, ◌∙◌, subst, subst₂, arith}
+use Rattle.std.proofs.Common.{◌≡◌, ℕ, ◌≤◌, true, List, [], ◌∷◌, ◌++◌, length, drop, Err, sym, ap, ◌∙◌, subst, subst₂, arith}
 use Rattle.std.proofs.lemmas.List.{append_assoc}
 use Rattle.std.proofs.lemmas.Bool.{lt-ltb, le-leb, and_from, cond-true}
 use Rattle.event.specs.declared.counts.Counts.{Counts}
 use Rattle.event.specs.declared.fault.CallerFault.{CallerFault}
 use Rattle.event.specs.declared.fault.CallerFault.TheVariants.{Full}
 use Rattle.event.specs.declared.record.Event.{Event}
-use Rattle.event.specs.Ranges.{limit, in_range}
-use Rattle.event.specs.Thins.{Rising, Placed, Sound}
+use Rattle.event.specs.Ranges.{in_range}
+use Rattle.event.specs.Thins.{Rising, Sound}
 use Rattle.event.proofs.Sounds.{sound_front, sound_first}
 use Rattle.keeper.specs.Telling.{last_place, follows, telling}
 use Rattle.keeper.specs.declared.keeper.Keeper.{Ghosts as Keeping}
 use Rattle.sink.specs.declared.sink.Sink.{Ghosts as Sinking}
+use Rattle.event.proofs.Offering.{placed_in_range}
 use Rattle.source.specs.declared.source.Source.{Ghosts as Giving}
 use Rattle.detect.specs.Reports.{Ready}
 use Rattle.detect.specs.Steps.{counts_of, rest_of, Going, Passes}
@@ -20,9 +21,6 @@ use Rattle.detect.specs.declared.run.Run.{Run}
 use Rattle.detect.proofs.Offering.{refused_full}
 use Rattle.detect.proofs.Rivals.{own_thread, own_variable, access_limit, placed_at}
 use Rattle.detect.proofs.Tabling.{holds_push, noted_spare}
-
-placed_in_range : (c : Counts) (e : Event) → Placed c e → in_range c e ≡ true
-placed_in_range c e p = (λ i. cond (lt-ltb e.thread c.threads p.thread i) (ltb e.number (limit c e.letter)) false) ∙ lt-ltb _ _ p.number
 
 follows_rising : (T : List Event) (e : Event) (M : List Event) → Rising (T ++ e ∷ M) → e.place ≤ 999999 → follows (last_place T) e.place ≡ true
 follows_rising [] e M r h = le-leb _ _ h

@@ -1,6 +1,6 @@
 -- The table of latest accesses: its slots are apart, a cleared one holds nothing, and one more access keeps it right.
 use Rattle.std.proofs.Common.{◌≡◌, ℕ, ◌+◌, ◌*◌, ◌/◌, ◌%◌, ◌<◌, ◌≤◌, min, Bool, true, false, cond, eqb, ◌⊎◌, List, [], ◌∷◌, ◌++◌, length, get_or, drop, set, replicate, Some, None, Option, sym, refl, ap, ◌∙◌, inl, inr, ⊎_elim, mul-le-mul_right, mul_assoc, mul_comm, add-mul, arith}
-use Rattle.std.proofs.lemmas.List.{get_or_append_left, get_or-replicate, get_or-set_same, get_or-set_other, length-set, length-replicate, drop_at, drop-set-lt}
+use Rattle.std.proofs.lemmas.List.{get_or-set_same, get_or-set_other, length-set, length-replicate, drop_at, drop-set-lt}
 use Rattle.std.proofs.lemmas.Nat.{div-mul-add, mod-mul-add}
 use Rattle.std.proofs.lemmas.Bool.{false_from_ne_true, both_ways, and_from, and_left, and_right, eq-eqb, ne_eqb, cases_eq, cond_both}
 use Rattle.event.specs.declared.counts.Counts.{Counts}
@@ -10,7 +10,7 @@ use Rattle.event.specs.declared.record.Event.{Event}
 use Rattle.event.specs.Thins.{accesses, access}
 use Rattle.finds.specs.Latest.{is_write_letter, is_read, touches, latest}
 use Rattle.finds.proofs.Latests.{write_is, read_is, latest_push}
-use Rattle.event.proofs.Clearing.{length_cleared}
+use Rattle.event.proofs.Clearing.{length_cleared, cleared_at}
 use Rattle.event.specs.Tables.{cleared}
 use Rattle.detect.specs.Table.{size, slot, noted, Holds}
 use Rattle.detect.proofs.Rivals.{access_letter}
@@ -38,11 +38,6 @@ slot_once c l m u v u' v' p q e = go (is_write_letter l) (is_write_letter m) e
     go false false h = let s = pair_once c.threads u v u' v' p q (omega arith) in (refl, s.0, s.1)
     go true false h = absurd (omega arith)
     go false true h = absurd (omega arith)
-
-cleared_at : {X : Type 0} (n : ℕ) (x : X) (xs : List X) (k : ℕ) → k < n → n ≤ length xs → get_or (cleared n x xs) k x ≡ x
-cleared_at n x xs k lt le =
-    get_or_append_left (replicate (min n (length xs)) x) (drop n xs) x k (omega (arith, length-replicate (min n (length xs)) x))
-    ∙ get_or-replicate (min n (length xs)) k x x (omega arith)
 
 -- clearing leaves the entries behind
 pub cleared_spare : {X : Type 0} (n : ℕ) (x : X) (xs : List X) → n ≤ length xs → drop n (cleared n x xs) ≡ drop n xs

@@ -38,7 +38,7 @@ pub(crate) fn is_write(letter: Letter) -> bool
     letter == Letter::Write
 }
 
-// Whether the two events can be a finding.
+// Whether the two events can be a finding. They are no `Pair` yet: that is what a sink is given.
 fn is_conflicting(earlier: Event, later: Event) -> bool
     ensures { result ≡ conflicting earlier later }
 {

@@ -1,5 +1,5 @@
 // The table of latest accesses, which the caller lends.
-ghost use Rattle.std.specs.Prelude.{◌≡◌, Some, None, slice_index_or, slice_set};
+ghost use Rattle.std.specs.Prelude.{◌≡◌, None, slice_index_or};
 ghost use Rattle.detect.specs.Table.{size, slot};
 
 use event::{Counts, Event, Letter};
@@ -27,14 +27,4 @@ pub(crate) fn look_up(table: &[Option<Event>], place: usize) -> Option<Event>
     ensures { result ≡ slice_index_or table.now place None }
 {
     table.get(place).copied().flatten()
-}
-
-// Writes an access to a place of a table, where it has that place.
-pub(crate) fn note(table: &mut [Option<Event>], place: usize, access: Event)
-    ensures { table.new ≡ slice_set table.old place (Some access) }
-{
-    // Not by `get_mut`: after that a proof knows no more of the table than its length.
-    if place < table.len() {
-        table[place] = Some(access);
-    }
 }

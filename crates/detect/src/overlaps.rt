@@ -18,7 +18,7 @@ use monitor::{Level, PlacementFault, check};
 use sink::Sink;
 use source::EventList;
 
-// Offers two accesses, where they are named and can be a finding.
+// Offers two accesses, where they are named and can be a finding. The sink is the caller's and the totals are the report's own, so no struct has both.
 fn offer_named<O: Sink>(two: Option<(Event, Event)>, sink: &mut O, totals: &mut Totals)
     ensures { Offering O.Sink sink.old totals.old (if_named two) sink.new totals.new }
 {

@@ -6,7 +6,7 @@ use Rattle.event.specs.declared.fault.CallerFault.{CallerFault}
 use Rattle.event.specs.declared.fault.CallerFault.TheVariants.{Range, Place, Full}
 use Rattle.event.specs.declared.intake.Intake.{Intake}
 use Rattle.event.specs.declared.record.Event.{Event}
-use Rattle.event.specs.Intakes.{last_place, follows, admitting, fresh, added, Took}
+use Rattle.event.specs.Intakes.{last_place, follows, admitting, added, Took}
 use Rattle.event.specs.Offers.{above_last, offered}
 use Rattle.event.specs.Ranges.{in_range}
 use Rattle.event.specs.Thins.{Sound}
@@ -27,9 +27,6 @@ last_push : (es : List Event) (e : Event) → last_place (es ++ e ∷ []) ≡ So
 last_push [] e = refl
 last_push (x ∷ []) e = refl
 last_push (x ∷ y ∷ es) e = last_push (y ∷ es) e
-
-pub took_none : Took fresh []
-took_none = record { many = refl; latest = refl }
 
 pub took_push : (k : Intake) (es : List Event) (e : Event) → Took k es → Took (added k e) (es ++ e ∷ [])
 took_push k es e h = record { many = omega (arith, h.many, length_push es e); latest = sym (last_push es e) }

@@ -50,7 +50,7 @@ in_range_parts c e h =
     let p = both_parts _ _ h in
     (ltb-true e.thread c.threads p.0, ltb-true e.number (limit c e.letter) p.1)
 
-placed_in_range : (c : Counts) (e : Event) → Placed c e → in_range c e ≡ true
+pub placed_in_range : (c : Counts) (e : Event) → Placed c e → in_range c e ≡ true
 placed_in_range c e p =
     (λ i. cond (lt-ltb e.thread c.threads p.thread i) (ltb e.number (limit c e.letter)) false)
     ∙ lt-ltb e.number (limit c e.letter) p.number

@@ -63,7 +63,7 @@ sound_short c L s = let r = short_from c 0 L (omega arith) (low L) s in omega (a
     low [] = tt
     low (f ∷ M) = (omega arith, low M)
 
-after_front : (e : Event) (L M : List Event) → After e (L ++ M) → After e L
+pub after_front : (e : Event) (L M : List Event) → After e (L ++ M) → After e L
 after_front e [] M a = tt
 after_front e (f ∷ L) M a = (a.0, after_front e L M a.1)
 

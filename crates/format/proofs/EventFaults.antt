@@ -18,6 +18,7 @@ use Rattle.format.specs.declared.fault.OrderFault.{OrderFault}
 use Rattle.format.specs.declared.fault.OrderFault.TheVariants.{Events, Mutex as BadMutex, Life as BadLife}
 use Rattle.format.specs.Parse.{map_ok, and_then}
 use Rattle.event.specs.Letters.{letter_at}
+use Rattle.event.proofs.Offering.{in_range_parts}
 use Rattle.format.specs.Events.{judged, event_body, read_event}
 use Rattle.format.specs.Codes.{code_letter, code_event}
 use Rattle.format.specs.Standings.{Standing, kind_at, lives, locks, moved, stepped, ruled_from}
@@ -25,7 +26,7 @@ use Rattle.format.specs.Encode.{GoodEvent, Numbered, AllBytes}
 use Rattle.format.specs.Refusals.{EventFault, letter, range, region, life, mutex}
 use Rattle.format.proofs.Steps.{ok_err, err_err, then_err, lift_then_err, map_err, either_err, ok_or_ok}
 use Rattle.format.proofs.Inverse.{two_digits, every_rest}
-use Rattle.format.proofs.EventsInverse.{in_range_means, letter_sound, event_sound}
+use Rattle.format.proofs.EventsInverse.{letter_sound, event_sound}
 use Rattle.format.proofs.Complete.{letter_complete}
 use Rattle.format.proofs.Accepting.{Accepts, stepped_ok}
 use Rattle.format.proofs.Keeping.{Right, lives_test, allowed_iff, right_more}
@@ -49,7 +50,7 @@ module _ (c : Counts) (kinds : ℕ → ObjectKind) (es : List Event) where
       let Of : Fault → Type 0 = λ g. EventFault c kinds es i bs (Events g) in
       ⊎_elim
       (λ r.
-      let w = in_range_means c e r.0 in
+      let w = in_range_parts c e r.0 in
       ⊎_elim
       (λ a. ok_err e f a.1)
       (λ a.

@@ -1,15 +1,16 @@
 -- Events that were read are what their bytes say.
-use Rattle.std.proofs.Common.{◌≡◌, ℕ, zero, suc, ◌+◌, ◌*◌, ◌<◌, ◌≤◌, Bool, true, false, cond, eqb, ltb, List, [], ◌∷◌, ◌++◌, length, drop, Some, None, Ok, Err, Option, sym, refl, ap, ◌∙◌, subst, arith}
+use Rattle.std.proofs.Common.{◌≡◌, ℕ, zero, suc, ◌+◌, ◌*◌, ◌<◌, ◌≤◌, Bool, true, false, cond, eqb, List, [], ◌∷◌, ◌++◌, length, drop, Some, None, Ok, Err, Option, sym, refl, ap, ◌∙◌, subst, arith}
 use Rattle.std.specs.List.{flat_map, AllByRecursion}
 use Rattle.std.specs.Option.{ok_or}
-use Rattle.std.proofs.lemmas.Bool.{ltb-true, eqb-true}
+use Rattle.std.proofs.lemmas.Bool.{eqb-true}
 use Rattle.std.proofs.lemmas.List.{length-drop, nil_from_length}
 use Rattle.event.specs.declared.letter.Letter.{Letter}
 use Rattle.event.specs.declared.letter.Letter.TheVariants.{Read, Write, Acquire, Release, Fork, Join, Begin, End, Strong, Weak, Downgrade, Stop}
 use Rattle.event.specs.declared.record.Event.{Event}
 use Rattle.event.specs.declared.counts.Counts.{Counts}
-use Rattle.event.specs.Ranges.{limit, in_range}
+use Rattle.event.specs.Ranges.{in_range}
 use Rattle.event.specs.Thins.{access}
+use Rattle.event.proofs.Offering.{in_range_parts}
 use Rattle.format.specs.declared.kinds.ObjectKind.{ObjectKind}
 use Rattle.format.specs.declared.fault.EventFault.{EventFault}
 use Rattle.format.specs.declared.fault.EventFault.TheVariants.{Letter as NoLetter, Range, Region}
@@ -23,9 +24,6 @@ use Rattle.format.proofs.Steps.{ok_ok, then_ok, if_ok, ok_or_ok}
 use Rattle.format.proofs.Inverse.{two_digits, every_rest}
 use Rattle.format.proofs.Checks.{ruled_more}
 use Rattle.format.proofs.Accepting.{Accepts, stepped_ok}
-
-none_some : {X : Type 0} {Z : Type 0} (x : X) → ◌≡◌ {A = Option X} None (Some x) → Z
-none_some x h = let z : ◌≡◌ {A = ℕ} 0 1 = cc in absurd (omega arith)
 
 pick : (b n : ℕ) (m l : Letter) (r : Option Letter) → code_letter m ≡ n → (r ≡ Some l → b ≡ code_letter l) → cond (eqb b n) (Some m) r ≡ Some l → b ≡ code_letter l
 pick b n m l r q k h = from (eqb b n) (eqb-true b n) h where
@@ -46,14 +44,7 @@ letter_sound b l =
     (pick b 77 Strong l _ refl
     (pick b 78 Weak l _ refl
     (pick b 68 Downgrade l _ refl
-    (pick b 81 Stop l None refl (λ h. none_some l h))))))))))))
-
-both_true : (a b : Bool) → cond a b false ≡ true → (a ≡ true) × (b ≡ true)
-both_true true b h = (refl, h)
-both_true false b h = let z : ◌≡◌ {A = ℕ} 0 1 = cc in absurd (omega arith)
-
-pub in_range_means : (c : Counts) (e : Event) → in_range c e ≡ true → (e.thread < c.threads) × (e.number < limit c e.letter)
-in_range_means c e h = let b = both_true (ltb e.thread c.threads) (ltb e.number (limit c e.letter)) h in (ltb-true _ _ b.0, ltb-true _ _ b.1)
+    (pick b 81 Stop l None refl (λ h. cc))))))))))))
 
 region_zero : (t : Bool) (n i : ℕ) (e x : Event) → cond t (Ok e) (cond (eqb n 0) (Ok e) (Err (Region i))) ≡ Ok x → (t ≡ false → n ≡ 0) × (e ≡ x)
 region_zero true n i e x h = (λ f. let z : ◌≡◌ {A = ℕ} 0 1 = cc in absurd (omega arith), ok_ok {E = EventFault} e x h)
@@ -62,7 +53,7 @@ region_zero false n i e x h = let s = if_ok (eqb n 0) (Ok e) (Region i) x h in (
 judged_sound : (c : Counts) (e x : Event) → judged c e ≡ Ok x → GoodEvent c e × (e ≡ x)
 judged_sound c e x h =
     let a = if_ok (in_range c e) (cond (access e) (Ok e) (cond (eqb e.region 0) (Ok e) (Err (Region e.place)))) (Range e.place) x h in
-    let r = in_range_means c e a.0 in
+    let r = in_range_parts c e a.0 in
     let z = region_zero (access e) e.region e.place e x a.1 in
     ((r.0, r.1, z.0), z.1)
 

@@ -1,9 +1,9 @@
 -- A table that has the levels after some events, and one event more.
-use Rattle.std.proofs.Common.{rules, ◌≡◌, ℕ, zero, suc, ◌/◌, ◌%◌, ◌<◌, ◌≤◌, min, true, false, List, [], ◌∷◌, ◌++◌, length, get_or, drop, set, replicate, sym, refl, ap, ◌∙◌, subst, ap₂, ⊎_elim, arith, length-append, length-drop, length-set}
+use Rattle.std.proofs.Common.{rules, ◌≡◌, ℕ, ◌/◌, ◌%◌, ◌<◌, ◌≤◌, min, true, false, List, [], ◌∷◌, ◌++◌, length, get_or, drop, set, replicate, sym, ap, ◌∙◌, subst, ap₂, ⊎_elim, arith, length-append, length-drop, length-set}
 use lib.ListN.{length-replicate}
 use Rattle.std.proofs.lemmas.Nat.{div-mul-add, mod-mul-add, div-add-mod'}
 use Rattle.std.proofs.lemmas.List.FromFn.{length-map-range_with_len, get_or-map-range_with_len, fill_by_all}
-use Rattle.std.proofs.lemmas.List.{get_or_append_left, get_or-set_same, get_or-set_other, get_or-replicate, set-append_left, set-get_or, drop_at, drop_all}
+use Rattle.std.proofs.lemmas.List.{get_or_append_left, get_or-set_same, get_or-set_other, get_or-replicate, set-append_left, set-get_or, drop_at}
 use Rattle.std.proofs.lemmas.Bool.{cases_Bool, cases_eq}
 use Rattle.event.specs.declared.counts.Counts.{Counts}
 use Rattle.event.specs.declared.record.Event.{Event}
@@ -14,19 +14,6 @@ use Rattle.monitor.specs.Levels.{level, after}
 use Rattle.monitor.specs.Looks.{monitors}
 use Rattle.monitor.specs.Tables.{size, slot, cleared, stepped, grid, tabled}
 use Rattle.monitor.proofs.Leveling.{monitors_limit, level_push, keeps_other}
-
--- ---- clearing
-
-pub clear_more : {S : Type 0} (i : ℕ) (xs : List S) (x : S) → i < length xs → set (replicate i x ++ drop i xs) i x ≡ replicate (suc i) x ++ drop (suc i) xs
-clear_more zero [] x h = absurd (omega arith)
-clear_more zero (y ∷ xs) x h = refl
-clear_more (suc i) [] x h = absurd (omega arith)
-clear_more (suc i) (y ∷ xs) x h = ap (λ l. x ∷ l) (clear_more i xs x (omega arith))
-
-pub drop_min : {S : Type 0} (n : ℕ) (xs : List S) → drop (min n (length xs)) xs ≡ drop n xs
-drop_min = search (rules, drop_all)
-
--- ---- levels in a table
 
 module _ (c : Counts) where
   pub slot_within : (t v : ℕ) → t < c.threads → v < c.variables → slot c t v < size c

@@ -35,14 +35,14 @@ impl Level {
         self as u8
     }
 
-    // The higher of two levels.
+    // The higher of two levels: `max` by the subject's word.
     pub fn higher(self, other: Level) -> Level
         ensures { result ≡ higher self other }
     {
         self.max(other)
     }
 
-    // The lower of two levels.
+    // The lower of two levels: `min` by the subject's word.
     pub fn lower(self, other: Level) -> Level
         ensures { result ≡ lower self other }
     {

@@ -7,7 +7,7 @@ ghost use Rattle.monitor.specs.Looks.{can_uncover, span, marks_of, raised, row_b
 
 use crate::level::Level;
 use crate::table::Levels;
-use event::{Event, Letter};
+use event::{Event, Letter, table};
 
 // Whether a moment that was covered before the event can be uncovered after it.
 fn may_uncover(e: Event) -> bool
@@ -83,11 +83,9 @@ impl<'e> Look<'e> {
 fn raise(marks: &mut [Level], variable: u16, level: Level)
     ensures { marks.new ≡ raised marks.old variable level }
 {
-    // By index: after a write through a slice's `get_mut` a proof knows no element of the slice.
     let v = usize::from(variable);
-    if v < marks.len() {
-        marks[v] = marks[v].max(level);
-    }
+    let mark = marks.get(v).copied().unwrap_or(Level::None);
+    table::set(marks, v, mark.max(level));
 }
 
 // For each variable the highest level that an access of the thread fits.
@@ -107,5 +105,6 @@ fn is_row_bare(levels: &Levels<'_>, thread: u8, marks: &[Level]) -> bool
     requires { 256 ≤ length marks.now }
     ensures { result ≡ row_bare levels.now.counts levels.now.table.now thread marks.now }
 {
+    // A variable is its number, in the marks and in the table.
     (0..levels.counts.variables()).any(|v| marks[v] < levels.get(thread, v as u16))
 }

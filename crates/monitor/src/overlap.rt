@@ -27,7 +27,7 @@ impl Look<'_> {
     }
 }
 
-// The same, and none behind the last moment.
+// The same, and none behind the last moment. A caller has the events, the moment and the thread by themselves: a `Look` holds only what it can look at.
 pub fn fitting_access(
     events: &[Event],
     moment: usize,
@@ -86,7 +86,7 @@ fn met_on(
     )
 }
 
-// What the event at an index and another thread name, with the levels of the moment just after the event.
+// What the event at an index and another thread name, with the levels of the moment just after the event, which are read over a shared slice.
 pub fn named(
     counts: Counts,
     events: &[Event],

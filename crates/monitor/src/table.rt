@@ -69,11 +69,8 @@ impl Levels<'_> {
     pub fn step(&mut self, e: Event)
         ensures { LeftWith self.old self.new (stepped self.old.counts self.old.table.now e) }
     {
-        // By index: after a write through a slice's `get_mut` a proof knows no entry of the slice.
-        let i = slot(self.counts, e.thread, e.number);
-        if i < self.table.len() {
-            self.table[i] = self.table[i].after(e.letter);
-        }
+        let level = self.get(e.thread, e.number).after(e.letter);
+        table::set(self.table, slot(self.counts, e.thread, e.number), level);
     }
 
     // The same, and whether the level rises.

@@ -4,6 +4,7 @@ use mathlib.Core.List.Memᴰ
 use Rattle.event.specs.declared.record.Event.{Event}
 use Rattle.event.specs.Order.{◌∈◌, Chain, start, more}
 use Rattle.event.specs.Thins.{After, Rising}
+use Rattle.event.proofs.Sounds.{after_front}
 use Rattle.order.proofs.Chaining.{chain_last, chain_within}
 
 pub same_place : {e f : Event} → e ≡ f → e.place ≡ f.place
@@ -31,10 +32,6 @@ module _ (L M : List Event) (r : Rising (L ++ M)) where
 
   pub chain_front_iff : {e f : Event} → f ∈ L → Chain (L ++ M) e f ↔ Chain L e f
   chain_front_iff j = (chain_front j, chain_within (λ e m. Memᴰ.append_left M m))
-
-after_front : (x : Event) (L M : List Event) → After x (L ++ M) → After x L
-after_front x [] M a = tt
-after_front x (y ∷ L) M a = (a.0, after_front x L M a.1)
 
 pub rising_front : (L M : List Event) → Rising (L ++ M) → Rising L
 rising_front [] M r = tt

@@ -12,7 +12,6 @@ pub mod Behind
 pub mod Joins
 pub mod Deeds
 pub mod Stamping
-pub mod Pushes
 pub mod Marking
 pub mod Entries
 pub mod Telling

@@ -1,5 +1,5 @@
 -- Events by index and by membership.
-use Rattle.std.proofs.Common.{◌≡◌, ℕ, zero, suc, ◌+◌, ◌-◌, ◌<◌, ◌≤◌, true, leb, ◌⊎◌, List, [], ◌∷◌, ◌++◌, length, get_or, take, drop, sym, refl, ap, ◌∙◌, subst, inl, inr, ⊎_elim, arith, length-drop, get_or-drop, leb-true}
+use Rattle.std.proofs.Common.{◌≡◌, ℕ, zero, suc, ◌+◌, ◌-◌, ◌<◌, ◌≤◌, true, leb, ◌⊎◌, List, [], ◌∷◌, length, get_or, take, drop, sym, refl, ap, ◌∙◌, subst, inl, inr, ⊎_elim, arith, length-drop, get_or-drop, leb-true}
 use mathlib.Core.List.Memᴰ
 use Rattle.std.proofs.lemmas.Bool.{and_parts}
 use Rattle.order.specs.Marks.{rises_from}
@@ -69,14 +69,6 @@ later_drop L r i li {f} m =
         | no o ↦ let same : h.0 ≡ i = omega arith in omega (arith, same_place h.2, ap (λ n. (get_or L n blank).place) same)
       ])
     ]
-
-after_push : (x : Event) (L : List Event) (g : Event) → After x L → x.place < g.place → After x (L ++ g ∷ [])
-after_push x [] g a lt = (lt, tt)
-after_push x (y ∷ L) g a lt = (a.0, after_push x L g a.1 lt)
-
-pub rising_push : (L : List Event) (g : Event) → Rising L → ((e : Event) → e ∈ L → e.place < g.place) → Rising (L ++ g ∷ [])
-rising_push [] g r h = (tt, tt)
-rising_push (x ∷ L) g r h = (after_push x L g r.0 (h x (Memᴰ.head refl)), rising_push L g r.1 (λ e m. h e (Memᴰ.tail m)))
 
 after_of : (x : Event) (L : List Event) → ((e : Event) → e ∈ L → x.place < e.place) → After x L
 after_of x [] h = tt

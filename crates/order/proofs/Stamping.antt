@@ -2,7 +2,7 @@
 -- A chain to the new event either starts there or takes its last step from an older event, in the same thread or by an object that the
 -- new event acquires: the thread's old stamp and the object's bound what those give, and the contribution is joined in.
 -- What a new release leaves at its object is behind the event itself.
-use Rattle.std.proofs.Common.{◌≡◌, ℕ, Bool, true, false, cond, eqb, List, [], ◌∷◌, ◌++◌, Some, None, Option, sym, refl, ap, ◌∙◌, subst, subst₂, ⊎_elim, append_assoc, append-nil, arith, eqb-true}
+use Rattle.std.proofs.Common.{◌≡◌, ℕ, Bool, true, false, cond, eqb, List, [], ◌∷◌, ◌++◌, Some, None, Option, sym, refl, ap, ◌∙◌, subst, subst₂, ⊎_elim, append_assoc, append-nil, eqb-true}
 use mathlib.Core.List.Memᴰ
 use mathlib.Core.List.{Memᴰ}
 use borrow.Author.Tests.{eqb-false, clash}
@@ -21,9 +21,6 @@ use Rattle.order.proofs.Objects.{same_object_true, same_object_eq}
 
 some_same : {o p : Object} → ◌≡◌ {A = Option Object} (Some o) (Some p) → o ≡ p
 some_same e = cc
-
-none_some : {o : Object} → ◌≡◌ {A = Option Object} None (Some o) → ⊥
-none_some e = let z : ◌≡◌ {A = ℕ} 0 1 = cc in omega arith
 
 pub events_push : {S : Type 0} (xs : List (Deed S)) (x : Deed S) → events (xs ++ x ∷ []) ≡ events xs ++ x.event ∷ []
 events_push [] x = refl
@@ -45,7 +42,7 @@ module _ {S : Type 0} {below : S → S → Type 0} {merged : S → S → S} {lea
   entered_old s (Some o) y = laws.left y (s.objects o)
 
   entered_object : (s : State S) (a : Option Object) (y : S) (o : Object) → a ≡ Some o → below (s.objects o) (entered merged s a y)
-  entered_object s None y o p = absurd (none_some p)
+  entered_object s None y o p = cc
   entered_object s (Some q) y o p = subst (λ v. below (s.objects v) (merged y (s.objects q))) (some_same p) (laws.right y (s.objects q))
 
   entered_tight : (s : State S) (a : Option Object) (y b : S) → below y b → ((o : Object) → a ≡ Some o → below (s.objects o) b) → below (entered merged s a y) b
@@ -156,7 +153,7 @@ module _ {S : Type 0} {below : S → S → Type 0} {merged : S → S → S} {lea
     object_at o p here q false e = object_old o here (λ z. clash (sym e ∙ same_object_eq p o (some_same (sym q ∙ z))))
 
     object_step : (o : Object) → Used o → (a : Option Object) → released x.event ≡ a → Bound below (xs ++ x ∷ []) (λ e. Leaves (L ++ x.event ∷ []) e o) (left_at merged a (after merged s x) o (s.objects o))
-    object_step o here None q = object_old o here (λ z. none_some (sym q ∙ z))
+    object_step o here None q = object_old o here (λ z. cc (sym q ∙ z))
     object_step o here (Some p) q = object_at o p here q (same_object p o) refl
 
     step_right : Right Thread Used (xs ++ x ∷ []) (L ++ x.event ∷ []) (step merged s x)

@@ -1,5 +1,5 @@
 -- What was reported into lines is what is printed.
-use Rattle.std.proofs.Common.{◌≡◌, ℕ, zero, suc, ◌-◌, ◌*◌, ◌≤◌, min, false, ltb, List, [], ◌∷◌, ◌++◌, length, take, IfOk, Ok, Err, fold, Result, sym, refl, ap, ◌∙◌, subst, append_assoc, append-nil, arith, length-append}
+use Rattle.std.proofs.Common.{◌≡◌, ℕ, zero, suc, ◌-◌, ◌*◌, ◌≤◌, min, false, ltb, List, [], ◌∷◌, ◌++◌, length, take, Ok, fold, sym, refl, ap, ◌∙◌, subst, append_assoc, append-nil, arith, length-append}
 use Rattle.std.specs.List.{flat_map}
 use Rattle.std.proofs.lemmas.List.{take_at, length-take-le}
 use Rattle.std.proofs.lemmas.Bool.{le-ltb}
@@ -58,7 +58,3 @@ pub answered : (answer : Contents → Said → Type 0) (bs : List ℕ) (c : Cont
 answered answer bs c s le h l =
     let t : ltb 65536 (length bs) ≡ false = le-ltb 65536 (length bs) le in
     subst (λ b. AnswersBy answer b (read_trace bs) s) (sym t) (subst (λ r. AnswersBy answer false r s) h l)
-
-pub made_each : {X E : Type 0} {P Q : X → Type 0} (r : Result X E) → ((x : X) → P x → Q x) → IfOk r P → IfOk r Q
-made_each (Ok x) f h = f x h
-made_each (Err e) f h = tt

@@ -7,7 +7,7 @@ use crate::listing::Listing;
 use std::alloc::Global;
 use std::io::{self, Read, Write};
 
-// Reads no more of the input than shows that it is too long, writes the answer and nothing else, and says whether it was a list.
+// Reads at most one byte more than the longest input has, writes the answer and nothing else, and says whether it was a list.
 pub fn respond<L: Listing, R: Read, W: Write>(
     heap: Global,
     input: &mut R,

@@ -53,7 +53,7 @@ fn main(rt: HostRuntime) -> anyhow::Result<()> {
     let Ok(t) = read(&input) else {
         return Err(anyhow!("this is no valid trace file"));
     };
-    // Tables of the sizes that are enough for every trace, as the programs lend them.
+    // Tables of the sizes that are enough for every trace, lent as the programs lend them: what is measured is their run, which takes no heap.
     let mut threads = [Clock::LEAST; 16];
     let mut objects = [Clock::LEAST; 544];
     let mut latest = [None; 8192];

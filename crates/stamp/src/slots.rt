@@ -29,7 +29,8 @@ pub fn slots(counts: Counts) -> usize
     counts.objects() + 2 * counts.threads()
 }
 
-// Refuses the first table that is too small for the counts: that of the threads, then that of the objects.
+// Refuses the first table that is too small for the counts: that of the threads, then that of the objects. It is asked before there are tables, so
+// their lengths stand beside the counts.
 pub fn room(counts: Counts, threads: usize, objects: usize) -> Result<(), CallerFault>
     ensures { result ≡ starting counts threads objects }
 {

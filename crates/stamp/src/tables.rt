@@ -1,4 +1,5 @@
-// Carrying stamps over lent tables, for any kind of stamp. Each part takes one table, as the caller lends it: no struct holds the two.
+// Carrying stamps over lent tables, for any kind of stamp. `copy_out`, `write_back`, `acquire` and `release`, the parts, take one table each; `start` and
+// `hand_in` take the two that the caller lends, and no struct holds both: lent tables stay the caller's.
 ghost use Rattle.std.specs.Prelude.{◌≡◌, [], length, is_ok, if◌then◌else◌, OnOk, slice_index_or, slice_set};
 ghost use Rattle.stamp.specs.Slots.{slots, starting, handing};
 ghost use Rattle.stamp.specs.Tables.{cleared, Means, Adds, joined_in, joined_into, threads_after, objects_after};
@@ -25,10 +26,7 @@ pub fn copy_out<S: Stamp>(table: &[S], place: usize) -> S
 pub fn write_back<S: Stamp>(table: &mut [S], place: usize, stamp: S)
     ensures { table.new ≡ slice_set table.old place stamp }
 {
-    // The library does not say what a table ends as after its `get_mut`.
-    if place < table.len() {
-        table[place] = stamp;
-    }
+    event::table::set(table, place, stamp);
 }
 
 // An acquire joins the object's stamp into the thread's.

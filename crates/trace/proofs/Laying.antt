@@ -47,14 +47,6 @@ skipped k t n bs rest le h =
       laid = out ∙ ap (items_laid_out (here t bs)) (sym e);
     }
 
--- one entry of n
-pub laid_more : (k : SectionKind) (t n m : ℕ) (bs rest : List ℕ) (i : Item) → n ≡ suc m → Ok (i, rest) ≡ item_from k (here t bs) bs → laid_from k t n bs ≡ (here t bs, i) ∷ laid_from k t m rest
-laid_more k t n m bs rest i e h = ap (λ l. laid_from k t l bs) e ∙ ap (λ r. laid_next (here t bs) r (laid_from k t m)) (sym h)
-
-pub laid_none : (k : SectionKind) (t n : ℕ) (bs : List ℕ) (f : SectionFault) → Err f ≡ item_from k (here t bs) bs → laid_from k t n bs ≡ []
-laid_none k t zero bs f h = refl
-laid_none k t (suc n) bs f h = ap (λ r. laid_next (here t bs) r (laid_from k t n)) (sym h)
-
 -- what a section that was read says
 pub record Read (k : SectionKind) (low high t : ℕ) (bs rest : List ℕ) (laid : List (ℕ × Item)) (n : ℕ) : Type 0 where
   pub value : Ok (map (λ y. y.1) laid, rest) ≡ section_from k low high t bs

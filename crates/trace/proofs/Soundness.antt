@@ -5,10 +5,10 @@ use Rattle.std.specs.List.{AllByRecursion}
 use Rattle.event.specs.declared.counts.Counts.{Counts}
 use Rattle.event.specs.declared.record.Event.{Event}
 use Rattle.event.specs.Thins.{After, Rising, Placed, Sound}
+use Rattle.event.proofs.Offering.{in_range_parts}
 use Rattle.format.specs.declared.fault.EventFault.{EventFault}
 use Rattle.format.specs.Events.{read_event, got_event, got_events}
 use Rattle.format.proofs.Checks.{event_range, event_place}
-use Rattle.format.proofs.EventsInverse.{in_range_means}
 use Rattle.trace.specs.declared.events.Events.{Events}
 use Rattle.trace.specs.Feed.{coming}
 
@@ -31,7 +31,7 @@ none c i = record { rising = tt; placed = tt; above = tt }
 one_more : (c : Counts) (i : ℕ) (bs : List ℕ) (L : List Event) (r : Result Event EventFault) → r ≡ read_event c i bs → i ≤ 999999 → From c (i + 1) L → From c i (got_event r L)
 one_more c i bs L (Err f) h k more = none c i
 one_more c i bs L (Ok e) h k more =
-    let r = in_range_means c e (event_range c i bs e h) in
+    let r = in_range_parts c e (event_range c i bs e h) in
     let p = event_place c i bs e h in
     record {
       rising = (after_all e i L p more.above, more.rising);

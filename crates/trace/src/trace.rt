@@ -12,7 +12,7 @@ pub struct Trace<'a> {
     pub(crate) threads: Section<'a>,
     pub(crate) objects: Section<'a>,
     pub(crate) variables: Section<'a>,
-    // the bytes of the events, six each
+    // the bytes of the events, six each: as `[u8; 6]` the type would say so, and each definition of the file's bytes would have to flatten them
     pub(crate) events: &'a [u8],
     ghost few: { length events.now ≤ 6000000 },
 }

@@ -5,7 +5,7 @@ ghost use Rattle.detect.specs.Whole.{Goes};
 
 use super::{Run, Step, Totals};
 use crate::latest;
-use event::Event;
+use event::{Event, table};
 use keeper::Keeper;
 use sink::Sink;
 use source::Source;
@@ -19,7 +19,7 @@ impl<'s, 'k, 'l, 'o, S: Source, K: Keeper, O: Sink> Run<'s, 'k, 'l, 'o, S, K, O>
             self.against_all(event);
             let counts = self.source.counts();
             let slot = latest::slot(counts, event.letter, event.thread, event.number);
-            latest::note(self.latest, slot, event);
+            table::set(self.latest, slot, Some(event));
         }
     }
 

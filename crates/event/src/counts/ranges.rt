@@ -34,7 +34,7 @@ impl Counts {
         ensures { result ≡ nearest threads objects variables }
     {
         Counts {
-            threads: threads.clamp(1, 16),
+            threads: threads.max(1).min(16),
             objects: objects.min(512),
             variables: variables.min(256),
         }

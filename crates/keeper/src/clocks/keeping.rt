@@ -51,8 +51,8 @@ impl<'a> Clocks<'a> {
         acquire(self.objects, slot, before).join(Clock::tick(e))
     }
 
-    // Carries an event through both tables. By a rule of the project the keeper, which holds both, copies the thread's clock out, calls the parts of
-    // the stamps' text, each of which takes one table, and writes the clock back.
+    // Carries an event through both tables. By a rule of the project (docs/DECISIONS.md, "The clocks carry") the keeper, which holds both, copies the
+    // thread's clock out, calls the parts of the stamps' text, each of which takes one table, and writes the clock back.
     fn carry(&mut self, e: Event)
         ensures threads { self.new.threads.now ≡ threads_after later zeros (clocks_counts self.old) self.old.threads.now self.old.objects.now e (tick e) }
         ensures objects { self.new.objects.now ≡ objects_after later zeros (clocks_counts self.old) self.old.threads.now self.old.objects.now e (tick e) }
@@ -109,7 +109,7 @@ impl<'a> Keeper for Clocks<'a> {
 
     fn ask(&self, t: usize, u: usize) -> Result<u32, CallerFault> {
         declared(self.plain.counts(), t, u)?;
-        // The clock is read where it stands, and not copied out: a run asks for each access and each other thread.
+        // The clock is read where it stands, and not copied out: a run asks at each access for each other thread.
         let Some(clock) = self.threads.get(t) else {
             return Ok(0);
         };

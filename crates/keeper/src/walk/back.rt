@@ -2,7 +2,7 @@
 ghost use Rattle.std.specs.Prelude.{◌≡◌, false, replicate};
 ghost use Rattle.keeper.specs.Walks.{flagged, flag, leads, WalksFrom, WalksTo};
 
-use event::{Counts, Event};
+use event::{Counts, Event, table};
 use stamp::slots::slot_of;
 
 fn flagged(flags: &[bool], slot: Option<usize>) -> bool
@@ -14,11 +14,8 @@ fn flagged(flags: &[bool], slot: Option<usize>) -> bool
 fn flag(flags: &mut [bool], slot: Option<usize>)
     ensures { flags.new ≡ flag flags.old slot }
 {
-    // The library does not say what a table ends as after its `get_mut`.
-    if let Some(k) = slot
-        && k < flags.len()
-    {
-        flags[k] = true;
+    if let Some(k) = slot {
+        table::set(flags, k, true);
     }
 }
 
@@ -54,7 +51,7 @@ fn walk_back(
     0
 }
 
-// The entry of t for u after the events told. The flags have room for all that counts can declare, and take no heap.
+// The entry of t for u after the events told. The two arrays stand side by side as the definitions of a walk name them. The flags have room for all that counts can declare, and take no heap.
 pub fn entry(counts: Counts, told: &[Event], t: usize, u: usize) -> u32
     ensures { WalksTo counts told.now t u result }
 {

@@ -5,7 +5,7 @@ ghost use Rattle.stamp.specs.ClocksLemmas.{clock_laws};
 
 use crate::clock::Clock;
 use crate::kind::Stamp;
-use event::Event;
+use event::{Event, table};
 
 impl Stamp for Clock {
     ghost below = { NoLater };
@@ -20,7 +20,8 @@ impl Stamp for Clock {
 
     fn join(self, other: Clock) -> Clock {
         let mut entries = self.entries;
-        // With `array::from_fn` the proof does not close: it says of each result that some call gave it, and not what the closure then held.
+        // With `array::from_fn` the proof does not close: it says of each result that some call gave it, and not what the closure then held. Over a `zip` of
+        // both the loop's invariant cannot speak of the entries, which are lent to the iterator.
         for (i, entry) in entries.iter_mut().enumerate() {
             *entry = (*entry).max(other.entries[i]);
         }
@@ -34,10 +35,11 @@ impl Clock {
         ensures { result ≡ tick e }
     {
         let mut entries = [0; 16];
-        // The library does not say what an array ends as after its `get_mut`.
-        if e.thread < 16 {
-            entries[usize::from(e.thread)] = e.place.saturating_add(1);
-        }
+        table::set(
+            &mut entries,
+            usize::from(e.thread),
+            e.place.saturating_add(1),
+        );
         Clock { entries }
     }
 

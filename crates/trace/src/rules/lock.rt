@@ -6,7 +6,7 @@ use format::kinds::ObjectKind;
 
 // Its kind, and the thread that holds it.
 #[derive(Clone, Copy)]
-pub struct Lock {
+pub(crate) struct Lock {
     pub(crate) kind: ObjectKind,
     pub(crate) holder: Option<u8>,
 }
