@@ -22,7 +22,7 @@ pub fn slot(counts: Counts, thread: u8, variable: u16) -> usize
     usize::from(thread) * counts.variables() + usize::from(variable)
 }
 
-// Refuses a table that is too small for the counts.
+// Refuses a table that is too small for the counts, by three lines as at each other table: a function for them would be no shorter at its calls.
 pub fn room(counts: Counts, levels: usize) -> Result<(), CallerFault>
     ensures { result ≡ room counts levels }
 {

@@ -30,7 +30,7 @@ pub fn slots(counts: Counts) -> usize
 }
 
 // Refuses the first table that is too small for the counts: that of the threads, then that of the objects. It is asked before there are tables, so
-// their lengths stand beside the counts.
+// their lengths stand beside the counts. Each table's test is its own three lines: a function for it would be no shorter at its calls.
 pub fn room(counts: Counts, threads: usize, objects: usize) -> Result<(), CallerFault>
     ensures { result ≡ starting counts threads objects }
 {

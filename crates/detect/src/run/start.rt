@@ -15,7 +15,8 @@ use keeper::Keeper;
 use sink::Sink;
 use source::Source;
 
-// Clears a keeper, and the entries of a table that the counts use. The table is tested before the keeper is cleared, and a refusal changes nothing.
+// Clears a keeper, and the entries of a table that the counts use. The table is tested, by three lines as at each other table, before the keeper is cleared,
+// and a refusal changes nothing.
 pub(crate) fn clear_for<K: Keeper>(
     counts: Counts,
     keeper: &mut K,
