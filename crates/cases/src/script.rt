@@ -15,7 +15,7 @@ pub const NOTHING: Event = Event {
 // The events of the trace in examples/setpoint.trace.
 pub const SETPOINT: &str = "0f1 1b1 0a0 0w0 0l0 1r0 1a0 1w0 1l0 0w0";
 
-// number, layer and place of the refusal, or zeros
+// number, layer and place of the refusal, or zeros: the tests' tables write a refusal as the programs print it
 pub fn verdict<T: Drop, F: Fault + Drop>(r: Result<T, F>) -> (u8, u8, usize) {
     match r {
         Ok(_) => (0, 0, 0),
