@@ -6,6 +6,7 @@ use event::Counts;
 
 // The toolchain proves no function with a `Result` of a struct that holds both a `&mut` and a struct with a ghost field, as `Clocks::new`
 // would be, so the three numbers stand here by themselves. They mean the counts within the limits that are nearest to them.
+// `new` and `counts` are the two ways between them, public calls with their clauses.
 #[derive(Clone, Copy)]
 pub struct PlainCounts {
     threads: usize,

@@ -33,6 +33,7 @@ fn kinds(objects: Section<'_>) -> [ObjectKind; 512]
     requires { objects.count ≤ 512 }
     ensures { result ≡ kind_table (kinds_of (items_in objects.entry)) }
 {
+    // An entry's index is its object's number, so it is written there: what a loop over `iter_mut` of the table has lent, no invariant can speak of.
     let mut table = [ObjectKind::Semaphore; 512];
     for (i, e) in objects.entries().enumerate() {
         table[i] = kind_of(e);
