@@ -23,7 +23,7 @@ admitting_offered c capacity n last e es many latest =
     ap₂ (λ m l. admitting c capacity m l e) many latest
     ∙ ap (λ b. cond (in_range c e) (cond b (cond (ltb (length es) capacity) (Ok tt) (Err (Full capacity))) (Err (Place e.place))) (Err (Range e.place))) (follows_last es e.place)
 
-last_push : (es : List Event) (e : Event) → last_place (es ++ e ∷ []) ≡ Some e.place
+pub last_push : (es : List Event) (e : Event) → last_place (es ++ e ∷ []) ≡ Some e.place
 last_push [] e = refl
 last_push (x ∷ []) e = refl
 last_push (x ∷ y ∷ es) e = last_push (y ∷ es) e

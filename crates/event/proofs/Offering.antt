@@ -20,7 +20,7 @@ above_tail : (e : Event) (L : List Event) (p : ℕ) → above_last (e ∷ L) p �
 above_tail e [] p h = refl
 above_tail e (f ∷ L) p h = h
 
-after_push : (x : Event) (L : List Event) (e : Event) → After x L → x.place < e.place → After x (L ++ e ∷ [])
+pub after_push : (x : Event) (L : List Event) (e : Event) → After x L → x.place < e.place → After x (L ++ e ∷ [])
 after_push x [] e a h = (h, tt)
 after_push x (f ∷ L) e a h = (a.0, after_push x L e a.1 h)
 

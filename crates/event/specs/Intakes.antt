@@ -4,7 +4,6 @@ use Rattle.event.specs.declared.counts.Counts.{Counts}
 use Rattle.event.specs.declared.fault.CallerFault.{CallerFault}
 use Rattle.event.specs.declared.fault.CallerFault.TheVariants.{Range, Place, Full}
 use Rattle.event.specs.declared.intake.Intake.{Intake}
-use Rattle.event.specs.declared.intake.TheConstants.{LAST_PLACE}
 use Rattle.event.specs.declared.record.Event.{Event}
 use Rattle.event.specs.Ranges.{in_range}
 
@@ -16,8 +15,8 @@ last_place (e ∷ f ∷ es) = last_place (f ∷ es)
 
 -- the place p can come after the last one
 abbrev pub follows : Option ℕ → ℕ → Bool
-follows None p = nat_le p LAST_PLACE
-follows (Some q) p = nat_lt q p && nat_le p LAST_PLACE
+follows None p = nat_le p 999999
+follows (Some q) p = nat_lt q p && nat_le p 999999
 
 -- Refused are a thread or a number that is not declared, then a place that is not above the last or above the highest, then any event where
 -- as many were taken as are taken at most.

@@ -1,5 +1,6 @@
 // What an event does.
-ghost use Rattle.std.specs.Prelude.{◌≡◌};
+ghost use Rattle.std.specs.Prelude.{◌≡◌, Some, codes, ◌++◌, decimal};
+ghost use Rattle.event.specs.declared.letter.UnknownLetter.{UnknownLetter};
 ghost use Rattle.event.specs.Letters.{code, SpellsLetter};
 
 use std::error::Error;
@@ -26,28 +27,6 @@ pub enum Letter {
 #[derive(Clone, Copy, PartialEq, Eq, Debug)]
 pub struct UnknownLetter {
     pub byte: u8,
-}
-
-impl Letter {
-    // The letter's byte in a trace file: a number, since the format has one. `u8::from` calls this.
-    pub fn code(self) -> u8
-        ensures { result ≡ code self }
-    {
-        match self {
-            Letter::Read => b'r',
-            Letter::Write => b'w',
-            Letter::Acquire => b'a',
-            Letter::Release => b'l',
-            Letter::Fork => b'f',
-            Letter::Join => b'j',
-            Letter::Begin => b'b',
-            Letter::End => b'e',
-            Letter::Strong => b'M',
-            Letter::Weak => b'N',
-            Letter::Downgrade => b'D',
-            Letter::Stop => b'Q',
-        }
-    }
 }
 
 impl From<Letter> for u8 {
@@ -83,7 +62,10 @@ impl TryFrom<u8> for Letter {
     }
 }
 
+// As `no letter has the byte 120`.
 impl fmt::Display for UnknownLetter {
+    ghost output = { λ u. Some (codes "no letter has the byte " ++ decimal u.byte) };
+
     fn fmt<W: fmt::Write>(&self, f: &mut fmt::Formatter<W>) -> fmt::Result {
         write!(f, "no letter has the byte {}", self.byte)
     }

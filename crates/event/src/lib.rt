@@ -2,6 +2,7 @@
 #![tactic(auto)]
 
 pub mod access;
+pub mod code;
 pub mod counts;
 pub mod fault;
 pub mod filed;

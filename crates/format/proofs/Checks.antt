@@ -1,7 +1,7 @@
 -- Going over n events one by one.
-use Rattle.std.proofs.Common.{◌≡◌, ℕ, zero, suc, ◌+◌, ◌*◌, ◌≤◌, Bool, true, false, cond, eqb, leb, List, [], ◌∷◌, length, get_or, drop, Ok, Err, Result, sym, refl, ap, ◌∙◌, arith}
+use Rattle.std.proofs.Common.{◌≡◌, ◌<◌, ℕ, zero, suc, ◌+◌, ◌*◌, ◌≤◌, Bool, true, false, cond, eqb, leb, List, [], ◌∷◌, length, get_or, drop, Ok, Err, Result, sym, refl, ap, ◌∙◌, arith}
 use Rattle.std.proofs.lemmas.List.{length-drop}
-use Rattle.std.proofs.lemmas.Bool.{le-leb, cond-true}
+use Rattle.std.proofs.lemmas.Bool.{le-leb, lt-leb, cond-true, cond-false}
 use Rattle.std.specs.Option.{ok_or}
 use Rattle.event.specs.declared.record.Event.{Event}
 use Rattle.event.specs.declared.counts.Counts.{Counts}
@@ -71,6 +71,11 @@ got_events_is ks c s i (suc n) bs es m h =
 pub got_step : (c : Counts) (i n m : ℕ) (bs : List ℕ) → n ≡ suc m → 6 ≤ length bs → got_events c i n bs ≡ got_event (read_event c i bs) (got_events c (i + 1) m (drop 6 bs))
 got_step c i n m bs e h = ap (λ n. got_events c i n bs) e ∙ cond-true (leb 6 (length bs)) _ _ (le-leb 6 (length bs) h)
 
+-- where no event's bytes are left, none is handed out
+pub got_short : (c : Counts) (i n : ℕ) (bs : List ℕ) → length bs < 6 → got_events c i n bs ≡ []
+got_short c i zero bs h = refl
+got_short c i (suc n) bs h = cond-false (leb 6 (length bs)) _ _ (lt-leb 6 (length bs) h)
+
 -- an event that was judged good is the one that was judged, and in range
 judged_range : (c : Counts) (e x : Event) → judged c e ≡ Ok x → in_range c x ≡ true
 judged_range c e x h = go (in_range c e) (access e) (eqb e.region 0) refl h
@@ -85,6 +90,12 @@ pub event_range : (c : Counts) (i : ℕ) (bs : List ℕ) (e : Event) → Ok e �
 event_range c i bs e h =
     let a = then_ok (ok_or (letter_at (get_or bs 0 0)) (NoLetter i)) (event_body c i bs) e (sym h) in
     judged_range c _ e a.2
+
+-- after a good event that keeps the rules, the verdict is that on the rest
+pub verdict_good : (ks : List ObjectKind) (c : Counts) (s z : Standing) (i n m : ℕ) (bs : List ℕ) (e : Event) → n ≡ suc m → Ok e ≡ read_event c i bs → Ok z ≡ stepped ks s e → verdict (ruled_from ks c z (i + 1) m (drop 6 bs)) ≡ verdict (ruled_from ks c s i n bs)
+verdict_good ks c s z i n m bs e q h k =
+    let rest : Standing → Result (Unit {0}) OrderFault = λ y. verdict (ruled_from ks c y (i + 1) m (drop 6 bs)) in
+    ap (λ r. and_then r rest) k ∙ ap (λ r. and_then (lift Events r) (λ x. and_then (stepped ks s x) rest)) h ∙ sym (verdict_step ks c s i n m bs q)
 
 -- the events that keep the rules are all there
 pub got_length : (ks : List ObjectKind) (c : Counts) (s : Standing) (n : ℕ) (bs : List ℕ) → Ok (got_events c 0 n bs) ≡ ruled_from ks c s 0 n bs → length (got_events c 0 n bs) ≡ n

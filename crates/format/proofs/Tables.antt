@@ -5,11 +5,18 @@ use Rattle.std.proofs.str.Laws.{order}
 use Rattle.format.specs.declared.kinds.ObjectKind.{ObjectKind}
 use Rattle.format.specs.declared.kinds.ObjectKind.TheVariants.{Semaphore}
 use Rattle.format.specs.Items.{Item}
-use Rattle.format.specs.Standings.{kinds_of, kind_at, kind_table, written}
+use Rattle.format.specs.Standings.{kind_of, kinds_of, kind_at, kind_table, written}
 
 -- the kinds of entries with their offsets
 abbrev pub kinds_laid : List (ℕ × Item) → List ObjectKind
 kinds_laid l = kinds_of (map (λ y. y.1) l)
+
+-- the table after one entry more, and after none
+pub written_more : (table : List ObjectKind) (i : ℕ) (k : ObjectKind) (laid rest : List (ℕ × Item)) (y : ℕ × Item) → k ≡ kind_of y.1 → laid ≡ y ∷ rest → written (set table i k) (i + 1) (kinds_laid rest) ≡ written table i (kinds_laid laid)
+written_more table i k laid rest y e h = ap (λ z. written (set table i z) (i + 1) (kinds_laid rest)) e ∙ sym (ap (λ l. written table i (kinds_laid l)) h)
+
+pub written_none : (table : List ObjectKind) (i : ℕ) (laid : List (ℕ × Item)) → laid ≡ [] → table ≡ written table i (kinds_laid laid)
+written_none table i laid h = sym (ap (λ l. written table i (kinds_laid l)) h)
 
 -- writing changes the entries written, and no others
 outside : (table : List ObjectKind) (i : ℕ) (ks : List ObjectKind) (m : ℕ) → (m < i) ⊎ (i + length ks ≤ m) → kind_at (written table i ks) m ≡ kind_at table m

@@ -1,4 +1,6 @@
 // The kinds of sections and objects, and the stages of a thread's life.
+ghost use Rattle.std.specs.Prelude.{Some, codes, decimal, ◌++◌};
+ghost use Rattle.format.specs.declared.kinds.UnknownKind.{UnknownKind};
 ghost use Rattle.format.specs.Kinds.{SpellsKind};
 
 use std::error::Error;
@@ -38,7 +40,10 @@ impl TryFrom<u8> for ObjectKind {
     }
 }
 
+// As `no kind of object has the byte 120`.
 impl fmt::Display for UnknownKind {
+    ghost output = { λ u. Some (codes "no kind of object has the byte " ++ decimal u.byte) };
+
     fn fmt<W: fmt::Write>(&self, f: &mut fmt::Formatter<W>) -> fmt::Result {
         write!(f, "no kind of object has the byte {}", self.byte)
     }
