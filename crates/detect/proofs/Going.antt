@@ -69,6 +69,20 @@ module _ {S K O : Type 0} (s : Giving S) (k : Keeping K) (o : Sinking O) where
     few : length on.told ≤ k.capacity was.keeper.now
     few = let h = (k.fits mid.keeper.now on.told on.going.told).few in omega (arith, h, keeps.keeper_capacity)
 
+    own_counts : k.counts mid.keeper.now ≡ counts_of s was
+    own_counts = on.going.counts ∙ keeps.counts
+
+    -- the run stopped
+    module _ (is : Run S K O) (stops : Stops mid is) where
+      offers_still : Offers o was (found_all (counts_of s was).threads on.told) is
+      offers_still = subst₂ (λ a b. OffersTo o was.sink.now was.totals (found_all (counts_of s was).threads on.told) a.now b) (sym stops.sink) (sym stops.totals) on.offers
+
+      told_still : k.told is.keeper.now on.told
+      told_still = subst (λ x. k.told x.now on.told) (sym stops.keeper) on.going.told
+
+      counts_still : k.counts is.keeper.now ≡ counts_of s was
+      counts_still = ap (λ x. k.counts x.now) stops.keeper ∙ own_counts
+
     -- what was told is the first events that are left, as many as it has
     told_first : (m : ℕ) → length on.told ≡ m → on.told ≡ take m (rest_of s was)
     told_first m e = sym (ap (take m) on.rest ∙ take_at on.told (rest_of s mid) m e)

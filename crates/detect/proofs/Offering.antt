@@ -1,14 +1,16 @@
 -- Offers one after another.
-use Rattle.std.proofs.Common.{◌≡◌, ℕ, ◌+◌, ◌-◌, ◌<◌, ◌≤◌, min, cond, ltb, List, [], ◌++◌, length, take, Ok, Err, fold, sym, refl, ap, ◌∙◌, subst, ⊎_elim, add_assoc, arith}
+use Rattle.std.proofs.Common.{◌≡◌, ℕ, ◌+◌, ◌-◌, ◌<◌, ◌≤◌, min, Bool, true, false, cond, ltb, List, [], ◌∷◌, ◌++◌, length, take, Ok, Err, fold, sym, refl, ap, ◌∙◌, subst, ⊎_elim, add_assoc, arith}
 use lib.Seq.{take-append-add}
 use Rattle.std.proofs.lemmas.List.{append-nil, length-append, take_all, take-append-le}
 use Rattle.std.proofs.lemmas.List.Sums.{fold-append}
-use Rattle.std.proofs.lemmas.Bool.{cases_lt, lt-ltb, le-ltb, cond-true, cond-false}
+use Rattle.std.proofs.lemmas.Bool.{cases_lt, ltb-true, lt-ltb, le-ltb, cond-true, cond-false}
 use Rattle.event.specs.declared.fault.CallerFault.{CallerFault}
+use Rattle.event.specs.declared.fault.CallerFault.TheVariants.{Sink}
 use Rattle.order.specs.Runs.{Two}
 use Rattle.sink.specs.declared.sink.Sink.{Ghosts as Sinking}
+use Rattle.sink.specs.Taking.{taking}
 use Rattle.detect.specs.declared.totals.Totals.{Totals}
-use Rattle.detect.specs.Offers.{most, Offered, Offering}
+use Rattle.detect.specs.Offers.{most, counted, Offered, Offering}
 
 -- the front of one list after another
 take_both : (n : ℕ) (fs gs : List Two) → take n (fs ++ gs) ≡ take n fs ++ take (n - min n (length fs)) gs
@@ -29,6 +31,25 @@ module _ {R : Type 0} {step : R → Two → R} {capacity taken : ℕ} {log : R} 
   offered_none =
       let none : take {A = Two} (capacity - taken) [] ≡ [] = take_all (capacity - taken) [] (omega arith) in
       record { all = λ h. omega arith; took = omega arith; wrote = λ h. omega arith; left = λ h. omega arith; kept = sym (ap (fold step log) none) }
+
+  pub offered_taken : (f : Two) (taken' : ℕ) (log' : R) (found' written' : ℕ) → found' ≡ counted found → written' ≡ counted written → taken < capacity → taken' ≡ taken + 1 → log' ≡ step log f → Offered step capacity taken log found written dropped (f ∷ []) taken' log' found' written' dropped
+  offered_taken f taken' log' found' written' p q lt t l =
+      let whole : take (capacity - taken) (f ∷ []) ≡ f ∷ [] = take_all (capacity - taken) (f ∷ []) (omega arith) in
+      record { all = λ h. omega arith; took = omega arith; wrote = λ h. omega arith; left = λ h. omega arith; kept = l ∙ sym (ap (fold step log) whole) }
+
+  pub offered_refused : (f : Two) (taken' : ℕ) (log' : R) (found' dropped' : ℕ) → found' ≡ counted found → dropped' ≡ counted dropped → capacity ≤ taken → taken' ≡ taken → log' ≡ log → Offered step capacity taken log found written dropped (f ∷ []) taken' log' found' written dropped'
+  offered_refused f taken' log' found' dropped' p q le t l =
+      let zero : capacity - taken ≡ 0 = omega arith in
+      let none : take (capacity - taken) (f ∷ []) ≡ [] = ap (λ k. take k (f ∷ [])) zero in
+      record { all = λ h. omega arith; took = omega arith; wrote = λ h. omega arith; left = λ h. omega arith; kept = l ∙ sym (ap (fold step log) none) }
+
+-- a sink that has room takes, and no other
+pub taken_room : (capacity taken : ℕ) (u : Unit {0}) → Ok u ≡ taking capacity taken → taken < capacity
+taken_room capacity taken u h = go (ltb taken capacity) refl h
+  where
+    go : (b : Bool) → ltb taken capacity ≡ b → Ok u ≡ cond b (Ok (tt {0})) (Err (Sink capacity)) → taken < capacity
+    go true p q = ltb-true _ _ p
+    go false p q = absurd (let z : ◌≡◌ {A = ℕ} 0 1 = cc in omega arith)
 
 -- an answer is refused only where its test fails
 pub refused_full : (n m : ℕ) (f g : CallerFault) → Err f ≡ cond (ltb n m) (Ok (tt {0})) (Err g) → (m ≤ n) × (f ≡ g)

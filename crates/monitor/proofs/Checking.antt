@@ -134,11 +134,11 @@ lowest_none c L h = least_none 0 (suc (length L)) (uncovered c L) (λ j le lt. h
 
 module _ (c : Counts) (L : List Event) (sound : Sound c L) (i : ℕ) (lt : i < length L) (xs levels next : List Level) (so : levels ≡ tabled c (take i L) xs) (went : next ≡ stepped c levels (get_or L i blank)) where
   -- the table has the levels of the next moment
-  turned : next ≡ tabled c (take (i + 1) L) xs
+  pub turned : next ≡ tabled c (take (i + 1) L) xs
   turned = search (rules, take_more, tabled_step, placed_at)
 
   -- and the look tells whether that moment is uncovered
-  told : {r : Bool} → uncovered c L i ≡ false → r ≡ (can_uncover (get_or L i blank) && thread_bare c L (i + 1) (get_or L i blank).thread next) → uncovered c L (i + 1) ≡ r
+  pub told : {r : Bool} → uncovered c L i ≡ false → r ≡ (can_uncover (get_or L i blank) && thread_bare c L (i + 1) (get_or L i blank).thread next) → uncovered c L (i + 1) ≡ r
   told before looked =
       let e = get_or L i blank in
       ap (uncovered c L) (add-one i)

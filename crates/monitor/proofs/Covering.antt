@@ -1,19 +1,51 @@
 -- A held level is covered exactly if it is at most the mark of its variable in its thread's span of the moment.
-use Rattle.std.proofs.Common.{rules, ◌≡◌, ℕ, ◌+◌, ◌-◌, ◌<◌, ◌≤◌, true, ltb, List, length, get_or, drop, Decides, sym, ap, ◌∙◌, subst, arith, length-drop}
+use Rattle.std.proofs.Common.{rules, ◌≡◌, ℕ, ◌+◌, ◌-◌, ◌<◌, ◌≤◌, true, ltb, List, length, get_or, drop, Decides, sym, refl, ap, ◌∙◌, subst, arith, length-drop}
 use Rattle.std.proofs.lemmas.List.{get_or-take, get_or-drop}
-use Rattle.std.proofs.lemmas.Bool.{and_parts, both_ways}
+use Rattle.std.proofs.lemmas.Bool.{and_parts, false≢true, both_ways}
+use Rattle.event.specs.declared.letter.Letter.{Letter}
+use Rattle.event.specs.declared.letter.Letter.TheVariants.{Read, Write, Acquire, Release, Fork, Join, Begin, End, Strong, Weak, Downgrade, Stop}
 use Rattle.event.specs.declared.record.Event.{Event}
+use Rattle.event.specs.Order.{reads, writes as writing}
+use Rattle.event.specs.Thins.{accesses}
+use Rattle.event.proofs.Thinning.{access_true}
 use Rattle.monitor.specs.declared.level.Level.{Level}
-use Rattle.monitor.specs.declared.level.Level.TheVariants.{None as none}
+use Rattle.monitor.specs.declared.level.Level.TheVariants.{None as none, Weak as weak, Strong as strong}
 use Rattle.monitor.specs.Levels.{rank, worth, level_at}
 use Rattle.monitor.specs.Looks.{mark, span, span_from, span_to}
-use Rattle.monitor.specs.Placement.{blank, Fits, CoveredBy, Covered, held, fits, covered_by, covered, exposed}
+use Rattle.monitor.specs.Placement.{blank, Suits, strongly, weakly, Fits, CoveredBy, Covered, suits, writes, held, fits, covered_by, covered, exposed}
 use Rattle.monitor.specs.Regions.{InRegion, in_region}
 use Rattle.monitor.proofs.Marking.{own, marked, unmarked, suits_worth, worth_suits, suits_access, own_true, own_parts}
 use Rattle.monitor.proofs.Searching.{any_found, any_from}
 use Rattle.monitor.proofs.Spans.{region_span, span_region, span_to_within}
 
 -- ---- the computed tests tell the truth
+
+writes_true : (e : Event) → writes e.letter ≡ true → e.letter ≡ Write
+writes_true e h = go e.letter refl h
+  where
+    go : (a : Letter) → e.letter ≡ a → writes a ≡ true → e.letter ≡ Write
+    go Read s t = absurd (false≢true t)
+    go Write s t = s
+    go Acquire s t = absurd (false≢true t)
+    go Release s t = absurd (false≢true t)
+    go Fork s t = absurd (false≢true t)
+    go Join s t = absurd (false≢true t)
+    go Begin s t = absurd (false≢true t)
+    go End s t = absurd (false≢true t)
+    go Strong s t = absurd (false≢true t)
+    go Weak s t = absurd (false≢true t)
+    go Downgrade s t = absurd (false≢true t)
+    go Stop s t = absurd (false≢true t)
+
+suits_true : (l : Level) (e : Event) → suits l e.letter ≡ true → Suits l e
+suits_true none e h = absurd (false≢true h)
+suits_true weak e h = weakly refl (access_true e h)
+suits_true strong e h = strongly refl (writes_true e h)
+
+true_suits : {l : Level} {e : Event} → Suits l e → suits l e.letter ≡ true
+true_suits {l} {e} (strongly s w) = ap (λ m. suits m e.letter) s ∙ ap writes w
+true_suits {l} {e} (weakly s (reads r)) = ap (λ m. suits m e.letter) s ∙ ap accesses r
+true_suits {l} {e} (weakly s (writing r)) = ap (λ m. suits m e.letter) s ∙ ap accesses r
 
 pub fits_iff : (e : Event) (t v : ℕ) (l : Level) → Decides (fits e t v l) (Fits e t v l)
 fits_iff = search rules
@@ -31,6 +63,16 @@ covered_iff L k t v = (
       (w.0, (covered_by_iff L k t v w.0 w.1).0 w.2),
   λ c. any_from (length L) (covered_by L k t v) c.0 c.1.within ((covered_by_iff L k t v c.0 c.1.within).1 c.1),
 )
+
+pub held_rank : (l : Level) → held l ≡ true → 0 < rank l
+held_rank none h = absurd (false≢true h)
+held_rank weak h = omega arith
+held_rank strong h = omega arith
+
+pub rank_held : (l : Level) → 0 < rank l → held l ≡ true
+rank_held none h = absurd (omega arith)
+rank_held weak h = refl
+rank_held strong h = refl
 
 pub held_not : (l : Level) → held l ≡ true → l ≡ none → ⊥
 held_not l h s = both_ways (held l) (ap held s) h

@@ -88,6 +88,9 @@ module _ (c : Counts) (L : List Event) (xs : List Level) (lacks : length xs < si
 
 -- where the table is large enough
 module _ (c : Counts) (L : List Event) (xs : List Level) (fits : size c ≤ length xs) where
+  pub checked_roomy : checked c L (length xs) ≡ refusing (lowest c L)
+  checked_roomy = cond-false (ltb (length xs) (size c)) _ _ (le-ltb (length xs) (size c) fits)
+
   pub left_roomy : left c L xs ≡ tabled c (reached c L) xs
   left_roomy = cond-false (ltb (length xs) (size c)) _ _ (le-ltb (length xs) (size c) fits)
 

@@ -4,20 +4,26 @@ use mathlib.Core.List.{Memᴰ}
 use Rattle.std.specs.List.{AllByRecursion}
 use Rattle.std.proofs.lemmas.List.{append-nil, append_assoc, length-append, map-append}
 use Rattle.std.proofs.ByRecursion.{All-append}
-use Rattle.std.proofs.lemmas.Bool.{and_from, and_parts, not-true, not_from_false, ltb-true, lt-ltb, eqb-false, ne_eqb, cases_eq, cond-true}
+use Rattle.std.proofs.lemmas.Bool.{false≢true, and_from, and_parts, not-true, not_from_false, ltb-true, lt-ltb, eqb-false, ne_eqb, cases_eq, cond-true}
 use Rattle.event.specs.declared.counts.Counts.{Counts}
 use Rattle.event.specs.declared.record.Event.{Event}
 use Rattle.monitor.specs.declared.level.Level.{Level}
-use Rattle.monitor.specs.Overlaps.{event_at, just_after, Rises, Meet, by_place, Overlap, Overlaps, Sooner, by_other, InOrder, rises, meets, lowest_fitting, on_both, met, overlap_with, gathered, overlaps_at, overlaps}
+use Rattle.monitor.specs.declared.level.Level.TheVariants.{None as none, Weak as weak, Strong as strong}
+use Rattle.monitor.specs.Overlaps.{event_at, just_after, Rises, Meet, by_place, Overlap, Overlaps, Sooner, by_other, InOrder, rises, is_strong, meets, lowest_fitting, on_both, met, overlap_with, gathered, overlaps_at, overlaps}
 use Rattle.monitor.specs.Theorems.{ListedOverlaps}
 use Rattle.monitor.proofs.Overlapping.{lowest_is, lowest_once}
 
 -- ---- the computed tests tell the truth
 
+strong_true : (m : Level) → is_strong m ≡ true → m ≡ strong
+strong_true none h = absurd (false≢true h)
+strong_true weak h = absurd (false≢true h)
+strong_true strong h = refl
+
 meets_true : (l m : Level) → meets l m ≡ true → Meet l m
 meets_true = search rules
 
-true_meets : {l m : Level} → Meet l m → meets l m ≡ true
+pub true_meets : {l m : Level} → Meet l m → meets l m ≡ true
 true_meets = search rules
 
 -- ---- lists that are gathered

@@ -1,5 +1,5 @@
 -- A mark is the highest level that an access among some events fits.
-use Rattle.std.proofs.Common.{rules, ◌≡◌, ℕ, zero, suc, ◌<◌, ◌≤◌, Bool, true, cond, ◌&&◌, eqb, ◌⊎◌, List, [], ◌∷◌, ◌++◌, length, get_or, replicate, sym, refl, ap, ◌∙◌, subst, inl, inr, ⊎_elim, arith, length-set}
+use Rattle.std.proofs.Common.{rules, ◌≡◌, ℕ, zero, suc, ◌<◌, ◌≤◌, Bool, true, cond, ◌&&◌, eqb, ltb, ◌⊎◌, List, [], ◌∷◌, ◌++◌, length, get_or, replicate, sym, refl, ap, ◌∙◌, subst, inl, inr, ⊎_elim, arith, length-set}
 use Rattle.std.proofs.lemmas.List.FromFn.{length-map-range_with_len, get_or-map-range_with_len, fill_by_all}
 use Rattle.std.proofs.lemmas.List.{get_or-set_same, get_or-set_other}
 use Rattle.std.proofs.lemmas.Bool.{cond_both, cond-true, cond-false, and_left, and_right, ne_eqb, cases_eq}
@@ -16,6 +16,9 @@ higher_left = search rules
 
 higher_right : (l m : Level) → rank m ≤ rank (higher l m)
 higher_right = search rules
+
+higher_most : (l m : Level) (n : ℕ) → n ≤ rank (higher l m) → (n ≤ rank l) ⊎ (n ≤ rank m)
+higher_most l m n = cond_both (ltb (rank l) (rank m)) m l (λ x. n ≤ rank x → (n ≤ rank l) ⊎ (n ≤ rank m)) (λ _ h. inr h) (λ _ h. inl h)
 
 module _ (t v : ℕ) where
   -- the event is of the thread t, and names v

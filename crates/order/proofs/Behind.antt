@@ -1,5 +1,5 @@
 -- To reach a thread is to reach its latest event.
-use Rattle.std.proofs.Common.{◌≡◌, ℕ, ◌<◌, ◌≤◌, ◌⊎◌, ◌↔◌, List, sym, ◌∙◌, subst, inl, inr, ⊎_elim, arith}
+use Rattle.std.proofs.Common.{◌≡◌, ℕ, ◌<◌, ◌≤◌, ◌⊎◌, ◌↔◌, List, [], ◌∷◌, ◌++◌, sym, refl, ◌∙◌, subst, inl, inr, ⊎_elim, arith}
 use mathlib.Core.List.Memᴰ
 use native.Mathlib.Decide.{ℕ_discrete, dec_lt}
 use Rattle.event.specs.declared.record.Event.{Event}
@@ -9,7 +9,8 @@ use Rattle.event.specs.Thins.{Rising}
 use Rattle.order.specs.Stamps.{Deed, Behind, Bound}
 use Rattle.order.proofs.Chaining.{chain_last}
 use Rattle.order.proofs.Finding.{latest}
-use Rattle.order.proofs.Front.{place_once}
+use Rattle.order.proofs.Front.{place_once, same_place}
+use Rattle.order.proofs.Newest.{newest_in, old_or_new, older}
 
 pub reaches_latest : (L : List Event) → Rising L → (t : ℕ) (l : Event) → LatestOf L t l → (e : Event) → Reaches L e t ↔ Chain L e l
 reaches_latest L r t l h e = (
@@ -22,6 +23,14 @@ reaches_latest L r t l h e = (
   where
     split : (a b : ℕ) → a ≤ b → (a ≡ b) ⊎ (a < b)
     split a b q = elim (dec_lt a b) [ yes lt ↦ inr lt | no n ↦ inl (omega arith) ]
+
+-- the newest event is its thread's latest
+pub newest_latest : (L : List Event) (g : Event) → Rising (L ++ g ∷ []) → LatestOf (L ++ g ∷ []) g.thread g
+newest_latest L g r = record {
+  «in» = newest_in L g;
+  of = refl;
+  last = λ f m s. ⊎_elim (λ i. let lt = older L g r i in omega arith) (λ e. omega (arith, same_place e)) (old_or_new L m);
+}
 
 -- a thread that has an event has a latest one
 pub latest_there : (L : List Event) (t : ℕ) (e : Event) → e ∈ L → e.thread ≡ t → (l : Event) × LatestOf L t l

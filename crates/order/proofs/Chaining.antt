@@ -39,6 +39,11 @@ pub chain_join : {L : List Event} {e f g : Event} → Chain L e f → Chain L f 
 chain_join b (start m) = b
 chain_join b (more c m lt k) = more (chain_join b c) m lt k
 
+-- a chain goes forward
+pub chain_rises : {L : List Event} {e f : Event} → Chain L e f → (e ≡ f) ⊎ (e.place < f.place)
+chain_rises (start m) = inl refl
+chain_rises {L} {e} (more {f} {g} c m lt k) = inr (⊎_elim (λ s. omega (arith, ap (λ (v : Event). v.place) s)) (λ h. omega arith) (chain_rises c))
+
 -- a chain is of no step, or has a first one
 pub chain_uncons : {L : List Event} {e g : Event} → Chain L e g → (e ≡ g) ⊎ ((f : Event) × (f ∈ L) × (e.place < f.place) × Linked e f × Chain L f g)
 chain_uncons (start m) = inl refl

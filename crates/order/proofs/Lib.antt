@@ -12,6 +12,7 @@ pub mod Behind
 pub mod Joins
 pub mod Deeds
 pub mod Stamping
+pub mod Pushes
 pub mod Marking
 pub mod Entries
 pub mod Telling

@@ -1,5 +1,5 @@
 -- Events by index and by membership.
-use Rattle.std.proofs.Common.{◌≡◌, ℕ, zero, suc, ◌+◌, ◌-◌, ◌<◌, ◌≤◌, true, leb, ◌⊎◌, List, [], ◌∷◌, length, get_or, take, drop, sym, refl, ap, ◌∙◌, subst, inl, inr, ⊎_elim, arith, length-drop, get_or-drop, leb-true}
+use Rattle.std.proofs.Common.{◌≡◌, ℕ, zero, suc, ◌+◌, ◌-◌, ◌<◌, ◌≤◌, true, leb, ◌⊎◌, List, [], ◌∷◌, ◌++◌, length, get_or, take, drop, sym, refl, ap, ◌∙◌, subst, inl, inr, ⊎_elim, arith, length-drop, get_or-drop, leb-true}
 use mathlib.Core.List.Memᴰ
 use Rattle.std.proofs.lemmas.Bool.{and_parts}
 use Rattle.order.specs.Marks.{rises_from}
@@ -9,6 +9,7 @@ use Rattle.event.specs.declared.letter.Letter.TheVariants.{Read}
 use Rattle.event.specs.declared.record.Event.{Event}
 use Rattle.event.specs.Order.{◌∈◌}
 use Rattle.event.specs.Thins.{After, Rising}
+use Rattle.event.proofs.Offering.{after_push}
 use Rattle.order.proofs.Front.{same_place, after_each}
 
 pub at_in : (L : List Event) (i : ℕ) (d : Event) → i < length L → get_or L i d ∈ L
@@ -69,6 +70,10 @@ later_drop L r i li {f} m =
         | no o ↦ let same : h.0 ≡ i = omega arith in omega (arith, same_place h.2, ap (λ n. (get_or L n blank).place) same)
       ])
     ]
+
+pub rising_push : (L : List Event) (g : Event) → Rising L → ((e : Event) → e ∈ L → e.place < g.place) → Rising (L ++ g ∷ [])
+rising_push [] g r h = (tt, tt)
+rising_push (x ∷ L) g r h = (after_push x L g r.0 (h x (Memᴰ.head refl)), rising_push L g r.1 (λ e m. h e (Memᴰ.tail m)))
 
 after_of : (x : Event) (L : List Event) → ((e : Event) → e ∈ L → x.place < e.place) → After x L
 after_of x [] h = tt

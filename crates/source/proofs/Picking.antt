@@ -1,24 +1,45 @@
 -- A picker's own bytes, and what they let through.
-use Rattle.std.proofs.Common.{◌≡◌, ℕ, ◌-◌, ◌<◌, ◌≤◌, Bool, true, false, cond, not, eqb, leb, List, [], ◌++◌, length, get_or, take, drop, replicate, Ok, sym, refl, ap, ◌∙◌, subst, arith}
+use Rattle.std.proofs.Common.{◌≡◌, ℕ, ◌-◌, ◌<◌, ◌≤◌, Bool, true, false, cond, not, eqb, leb, List, [], ◌++◌, length, get_or, take, drop, replicate, is_ok, Ok, Err, Result, sym, refl, ap, ◌∙◌, subst, arith}
 use Rattle.std.specs.Result.{IfOk}
 use Rattle.std.proofs.lemmas.List.{length-take-le, get_or_append_left, get_or-take, drop-replicate}
-use Rattle.std.proofs.lemmas.Bool.{le-leb, leb-true, cond-true}
+use Rattle.std.proofs.lemmas.Bool.{false≢true, le-leb, leb-true, cond-true}
 use Rattle.event.specs.declared.counts.Counts.{Counts}
+use Rattle.event.specs.declared.fault.CallerFault.{CallerFault}
+use Rattle.event.specs.declared.fault.CallerFault.TheVariants.{Table}
 use Rattle.event.specs.declared.record.Event.{Event}
 use Rattle.event.specs.Order.{Access, reads, writes}
 use Rattle.event.specs.Ranges.{limit}
 use Rattle.event.specs.Thins.{Placed, Sound, access}
 use Rattle.event.proofs.Sieving.{sieved_alike}
 use Rattle.event.proofs.Thinning.{access_true}
+use Rattle.source.specs.declared.picker.Picks.{Picks}
 use Rattle.source.proofs.Making.{ok_if}
 use Rattle.source.specs.Picked.{own_bytes, passes, picked, picks_for}
+
+-- where the bytes are enough, the own copy has them
+pub picked_enough : (v : ℕ) (bytes : List ℕ) (p : Picks) → Ok p ≡ picks_for v bytes → (v ≤ length bytes) × (p.bytes ≡ own_bytes v bytes)
+picked_enough v bytes p h = go (leb v (length bytes)) refl h
+  where
+    go : (b : Bool) → leb v (length bytes) ≡ b → ◌≡◌ {A = Result Picks CallerFault} (Ok p) (cond b (Ok (record { bytes = own_bytes v bytes })) (Err (Table v))) → (v ≤ length bytes) × (p.bytes ≡ own_bytes v bytes)
+    go true t q =
+        let s : p ≡ record { bytes = own_bytes v bytes } = cc in
+        (leb-true v (length bytes) t, ap (λ (k : Picks). k.bytes) s)
+    go false t q = absurd (false≢true (sym (ap is_ok q)))
+
+pub enough : (v : ℕ) (bytes : List ℕ) (p : Picks) → v ≤ length bytes → p.bytes ≡ own_bytes v bytes → Ok p ≡ picks_for v bytes
+enough v bytes p h s =
+    (λ i. Ok (record { bytes = s i })) ∙ sym (cond-true (leb v (length bytes)) (Ok (record { bytes = own_bytes v bytes })) (Err (Table v)) (le-leb v (length bytes) h))
+
+-- a copy into the front of 256 zeros
+pub own_front : (v w : ℕ) (bytes copy : List ℕ) → w ≡ v → copy ≡ take w bytes → copy ++ drop w (replicate 256 0) ≡ own_bytes v bytes
+own_front v w bytes copy p q =
+    ap (λ l. l ++ drop w (replicate 256 0)) q ∙ ap (λ k. take k bytes ++ drop k (replicate 256 0)) p
+    ∙ ap (λ l. take v bytes ++ l) (drop-replicate v 256 0)
 
 -- a copy of enough bytes into the front of 256 zeros
 pub own_copy : (v w : ℕ) (bytes copy : List ℕ) → w ≡ v → w ≤ length bytes → copy ≡ take w bytes → Ok (record { bytes = copy ++ drop w (replicate 256 0) }) ≡ picks_for v bytes
 own_copy v w bytes copy p h q =
-    let same : copy ++ drop w (replicate 256 0) ≡ own_bytes v bytes =
-    ap (λ l. l ++ drop w (replicate 256 0)) q ∙ ap (λ k. take k bytes ++ drop k (replicate 256 0)) p
-    ∙ ap (λ l. take v bytes ++ l) (drop-replicate v 256 0) in
+    let same = own_front v w bytes copy p q in
     (λ i. Ok (record { bytes = same i })) ∙ sym (cond-true (leb v (length bytes)) _ _ (le-leb v (length bytes) (omega arith)))
 
 -- an access is to a declared variable

@@ -81,3 +81,8 @@ module _ {S : Type 0} {below : S → S → Type 0} {join : S → S → S} {least
         thread_same
         (joined_into_same (released e) (released_declared c e ranged))
         (sums_push laws xs old deed rising (in_range_parts c e ranged).0 (acquired_declared c e ranged) h)
+
+-- the stamp that the parts give, one after another
+pub stamp_parts : {S : Type 0} (join : S → S → S) (least : S) (c : Counts) (ts os : List S) (e : Event) (v before got mine : S) (t : ℕ) (a : Option ℕ) → t ≡ e.thread → before ≡ slice_index_or ts t least → a ≡ option_map (slot c) (acquired e) → got ≡ joined_in join os a before → mine ≡ join got v → mine ≡ stamp_after join least c ts os e v
+stamp_parts join least c ts os e v before got mine t a te be ae ge ne =
+    ne ∙ ap (λ s. join s v) (ge ∙ ap₂ (joined_in join os) ae (be ∙ ap (λ k. get_or ts k least) te))

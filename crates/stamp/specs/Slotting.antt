@@ -75,6 +75,10 @@ released_declared c e h o a = let r = in_range_parts c e h in releases_declared 
 abbrev good : Result (Unit {0}) CallerFault
 good = Ok tt
 
+-- an answer that was refused is not the good one
+refusal : {A : Type 0} {f : CallerFault} → good ≡ Err f → A
+refusal e = absurd (let z : ◌≡◌ {A = ℕ} 0 1 = cc in omega arith)
+
 -- a start is taken where both tables are large enough
 pub started_fits : (c : Counts) (m n : ℕ) → Ok tt ≡ starting c m n → (c.threads ≤ m) × (slots c ≤ n)
 started_fits c m n h = go (nat_lt m c.threads) refl (nat_lt n (slots c)) refl h
