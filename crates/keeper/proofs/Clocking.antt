@@ -7,16 +7,18 @@ use Rattle.event.specs.Entries.{IsEntry}
 use Rattle.event.specs.Objects.{released}
 use Rattle.event.specs.Thins.{Rising}
 use Rattle.event.specs.declared.intake.Intake.{Intake}
-use Rattle.event.specs.Intakes.{added, admitting}
+use Rattle.event.specs.Intakes.{fresh, added, admitting}
+use Rattle.event.proofs.Clearing.{length_cleared}
 use Rattle.event.proofs.Intaking.{took_push, took_ranged}
 use Rattle.order.specs.Stamps.{deeds, Behind, Bound}
 use Rattle.order.proofs.Deeds.{deed, events_deeds, deeds_push}
 use Rattle.stamp.specs.declared.clock.Clock.{Clock}
 use Rattle.stamp.specs.Clocks.{NoLater, later, zeros, tick, TellsEntry}
-use Rattle.stamp.specs.Slots.{slot}
-use Rattle.stamp.specs.Tables.{Means, joined_into, stamp_after, threads_after, objects_after}
-use Rattle.stamp.specs.Carrying.{adds}
+use Rattle.stamp.specs.Slots.{slot, slots, starting}
+use Rattle.stamp.specs.Tables.{cleared, Means, joined_into, stamp_after, threads_after, objects_after}
+use Rattle.stamp.specs.Carrying.{adds, means_none}
 use Rattle.stamp.specs.ClocksLemmas.{clock_laws}
+use Rattle.stamp.specs.Slotting.{started_fits}
 use Rattle.keeper.specs.Kept.{many, Clocked}
 use Rattle.keeper.proofs.Telling.{fits_push}
 
@@ -29,6 +31,19 @@ length_threads c ts os e = length-set ts e.thread (stamp_after later zeros c ts 
 
 pub length_objects : (c : Counts) (ts os : List Clock) (e : Event) → length (objects_after later zeros c ts os e (tick e)) ≡ length os
 length_objects c ts os e = length_into os (option_map (slot c) (released e)) (stamp_after later zeros c ts os e (tick e))
+
+-- cleared tables mean the empty list
+pub clocked_none : (c d : Counts) (ts os ts' os' : List Clock) → d ≡ c → Ok tt ≡ starting c (length ts) (length os) → ts' ≡ cleared c.threads zeros ts → os' ≡ cleared (slots c) zeros os → Clocked d fresh ts' os' []
+clocked_none c d ts os ts' os' same ok p q =
+    let fit = started_fits c (length ts) (length os) ok in
+    subst (λ x. Clocked x fresh ts' os' []) (sym same)
+    (record {
+      fits = record { sound = record { rising = tt; placed = tt }; few = omega arith };
+      took = record { many = refl; latest = refl };
+      threads_fit = omega (arith, fit.0, ap length p ∙ length_cleared c.threads zeros ts);
+      objects_fit = omega (arith, fit.1, ap length q ∙ length_cleared (slots c) zeros os);
+      stamps = subst₂ (λ l m. Means NoLater zeros c [] l m) (sym p) (sym q) (means_none clock_laws c ts os fit.0 fit.1);
+    })
 
 -- an event that was carried through the tables is told
 pub clocked_push : (c : Counts) (k : Intake) (ts os ts' os' : List Clock) (e : Event) (es : List Event) → ts' ≡ threads_after later zeros c ts os e (tick e) → os' ≡ objects_after later zeros c ts os e (tick e) → Ok tt ≡ admitting c many k.taken k.last e → Clocked c k ts os es → Clocked c (added k e) ts' os' (es ++ e ∷ [])

@@ -1,5 +1,5 @@
 -- The events that a walk stores.
-use Rattle.std.proofs.Common.{◌≡◌, ℕ, ◌<◌, min, List, [], ◌∷◌, ◌++◌, length, take, set, Ok, sym, ap, ◌∙◌, subst, arith, length-set}
+use Rattle.std.proofs.Common.{◌≡◌, ℕ, ◌<◌, min, List, [], ◌∷◌, ◌++◌, length, take, set, Ok, sym, ap, ◌∙◌, subst, subst₂, arith, length-set}
 use Rattle.std.proofs.lemmas.List.{take_more_set}
 use Rattle.event.specs.declared.counts.Counts.{Counts}
 use Rattle.event.specs.declared.intake.Intake.{Intake}
@@ -20,9 +20,9 @@ walked_push c k events e es ok h = record {
 }
 
 -- the part that is walked over is what was told
-pub walked_entry : (c : Counts) (k : Intake) (events : List Event) (n : ℕ) (es : List Event) (t u m : ℕ) → n ≡ min k.taken (length events) → Walked c k events es → t < c.threads → u < c.threads → WalksTo c (take n events) t u m → IsEntry es t u m
-walked_entry c k events n es t u m cut h lt lu walks =
+pub walked_entry : (c d : Counts) (k : Intake) (events : List Event) (n : ℕ) (es : List Event) (t u m : ℕ) → d ≡ c → n ≡ min k.taken (length events) → Walked c k events es → t < c.threads → u < c.threads → WalksTo d (take n events) t u m → IsEntry es t u m
+walked_entry c d k events n es t u m same cut h lt lu walks =
     let whole : n ≡ k.taken = omega (arith, h.fits.few, h.took.many, cut) in
     let told : take n events ≡ es = ap (λ j. take j events) whole ∙ sym h.front in
-    let right = subst (λ l. WalksTo c l t u m) told walks in
+    let right = subst₂ (λ x l. WalksTo x l t u m) same told walks in
     right h.fits.sound lt lu

@@ -1,21 +1,61 @@
 -- One event more: what was told stays sound, and fits.
-use Rattle.std.proofs.Common.{◌≡◌, ℕ, ◌<◌, Bool, true, false, cond, ltb, List, [], ◌∷◌, ◌++◌, Some, None, Ok, Option, Result, refl, ap₂, arith, ltb-true}
+use Rattle.std.proofs.Common.{◌≡◌, ℕ, ◌<◌, ◌≤◌, Bool, true, false, cond, ltb, leb, List, [], ◌∷◌, ◌++◌, length, Some, None, Ok, Err, Option, Result, refl, subst, ap₂, ⊎_elim, arith, ltb-true, leb-true}
+use mathlib.Core.List.Memᴰ
 use Rattle.std.proofs.lemmas.List.{length_push}
+use Rattle.std.proofs.lemmas.Bool.{and_parts}
 use Rattle.event.specs.declared.counts.Counts.{Counts}
 use Rattle.event.specs.declared.fault.CallerFault.{CallerFault}
-use Rattle.event.specs.declared.fault.CallerFault.TheVariants.{Thread}
+use Rattle.event.specs.declared.fault.CallerFault.TheVariants.{Range, Place, Full, Thread}
 use Rattle.event.specs.declared.intake.Intake.{Intake}
 use Rattle.event.specs.declared.record.Event.{Event}
 use Rattle.event.specs.Entries.{IsEntry}
-use Rattle.event.specs.Intakes.{admitting, Took}
+use Rattle.event.specs.Intakes.{last_place, follows, admitting, Took}
+use Rattle.event.specs.Order.{◌∈◌}
+use Rattle.event.specs.Ranges.{in_range}
+use Rattle.event.specs.Thins.{Rising}
 use Rattle.event.proofs.Intaking.{took_sound, took_room}
 use Rattle.order.specs.Marks.{entry}
 use Rattle.order.proofs.Entries.{entry_right, entry_once}
+use Rattle.order.proofs.Front.{same_place}
 use Rattle.keeper.specs.Telling.{Fits, telling, undeclared, unless, asking}
 
 -- the good answer
 abbrev good : Result (Unit {0}) CallerFault
 good = Ok tt
+
+-- an answer that was refused is not a good one
+refusal : {A : Type 0} {f : CallerFault} → good ≡ Err f → A
+refusal e = absurd (let z : ◌≡◌ {A = ℕ} 0 1 = cc in omega arith)
+
+-- what a test that was passed says
+pub record Admitted (c : Counts) (capacity n : ℕ) (last : Option ℕ) (e : Event) : Type 0 where
+  pub ranged : in_range c e ≡ true
+  pub placed : follows last e.place ≡ true
+  pub room : n < capacity
+
+pub admitted : (c : Counts) (capacity n : ℕ) (last : Option ℕ) (e : Event) → good ≡ admitting c capacity n last e → Admitted c capacity n last e
+admitted c capacity n last e h = go (in_range c e) refl (follows last e.place) refl (ltb n capacity) refl h
+  where
+    go : (a : Bool) → in_range c e ≡ a → (b : Bool) → follows last e.place ≡ b → (d : Bool) → ltb n capacity ≡ d → good ≡ cond a (cond b (cond d good (Err (Full capacity))) (Err (Place e.place))) (Err (Range e.place)) → Admitted c capacity n last e
+    go true p true q true r s = record { ranged = p; placed = q; room = ltb-true _ _ r }
+    go true p true q false r s = refusal s
+    go true p false q d r s = refusal s
+    go false p b q d r s = refusal s
+
+pub admitted_told : (c : Counts) (capacity n : ℕ) (last : Option ℕ) (e : Event) (es : List Event) → n ≡ length es → last ≡ last_place es → Admitted c capacity n last e → Admitted c capacity (length es) (last_place es) e
+admitted_told c capacity n last e es p q a = record { ranged = a.ranged; placed = subst (λ l. follows l e.place ≡ true) q a.placed; room = omega (arith, a.room) }
+
+follows_low : (last : Option ℕ) (p : ℕ) → follows last p ≡ true → p ≤ 999999
+follows_low None p h = leb-true _ _ h
+follows_low (Some q) p h = leb-true _ _ (and_parts (ltb q p) (leb p 999999) h).1
+
+-- in a rising list a place above the last is above each
+follows_all : (es : List Event) → Rising es → (p : ℕ) → follows (last_place es) p ≡ true → (f : Event) → f ∈ es → f.place < p
+follows_all [] r p h f m = absurd (Memᴰ.not-nil m)
+follows_all (x ∷ []) r p h f m = let lt = ltb-true _ _ (and_parts (ltb x.place p) (leb p 999999) h).0 in omega (arith, same_place (Memᴰ.eq_of_singleton m))
+follows_all (x ∷ y ∷ es) r p h f m =
+    let later = follows_all (y ∷ es) r.1 p h in
+    ⊎_elim (λ s. omega (arith, same_place s, r.0.0, later y (Memᴰ.head refl))) (λ n. later f n) (Memᴰ.cases_cons m)
 
 -- an event that was taken is one more of those that were told
 pub fits_push : (c : Counts) (capacity : ℕ) (k : Intake) (es : List Event) (e : Event) → Took k es → good ≡ admitting c capacity k.taken k.last e → Fits c capacity es → Fits c capacity (es ++ e ∷ [])

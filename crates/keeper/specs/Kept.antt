@@ -15,7 +15,7 @@ use Rattle.keeper.specs.declared.walk.Walk.{Walk}
 use Rattle.keeper.specs.declared.plain.PlainCounts.{PlainCounts}
 use Rattle.keeper.specs.Telling.{Fits}
 
--- the counts that the clocks hold
+-- the counts that a keeper holds
 abbrev pub counts_of : PlainCounts → Counts
 counts_of d = nearest d.threads d.objects d.variables
 
@@ -52,7 +52,7 @@ clocks_told k es = Clocked (clocks_counts k) k.told k.threads.now k.objects.now 
 
 -- the walk's meaning: no table of it depends on the counts
 abbrev pub walk_counts : Walk → Counts
-walk_counts k = k.counts
+walk_counts k = counts_of k.plain
 
 abbrev pub walk_capacity : Walk → ℕ
 walk_capacity k = length k.events.now
@@ -61,4 +61,4 @@ abbrev pub walk_lacks : Walk → Counts → Option ℕ
 walk_lacks k c = None
 
 abbrev pub walk_told : Walk → List Event → Type 0
-walk_told k es = Walked k.counts k.told k.events.now es
+walk_told k es = Walked (walk_counts k) k.told k.events.now es

@@ -4,6 +4,7 @@ use event::Intake;
 use stamp::Clock;
 
 pub mod keeping;
+pub mod tables;
 
 // What was told, and a clock for each thread and for each object.
 #[derive(Drop)]

@@ -5,6 +5,7 @@ ghost use Rattle.keeper.specs.Meaning.{Clears, Tells};
 
 use crate::admit::declared;
 use crate::keeper::Keeper;
+use crate::plain::PlainCounts;
 use crate::walk::Walk;
 use crate::walk::back::entry;
 use event::{CallerFault, Counts, Event, Intake};
@@ -17,7 +18,7 @@ impl<'a> Walk<'a> {
         ensures events { result.events.now ≡ events.old }
     {
         Walk {
-            counts,
+            plain: PlainCounts::new(counts),
             told: Intake::new(),
             events,
         }
@@ -36,7 +37,7 @@ impl<'a> Keeper for Walk<'a> {
     ghost fits = { λ k es h. h.fits };
 
     fn counts(&self) -> Counts {
-        self.counts
+        self.plain.counts()
     }
 
     fn capacity(&self) -> usize {
@@ -48,7 +49,7 @@ impl<'a> Keeper for Walk<'a> {
         ensures clears { Clears walk_counts walk_capacity walk_lacks walk_told self.old self.new fresh result }
         ensures events { self.new.events.now ≡ self.old.events.now }
     {
-        self.counts = fresh;
+        self.plain = PlainCounts::new(fresh);
         self.told = Intake::new();
         Ok(())
     }
@@ -59,14 +60,15 @@ impl<'a> Keeper for Walk<'a> {
         ensures events { self.new.events.now ≡ (if is_ok result then slice_set self.old.events.now self.old.told.taken e else self.old.events.now) }
     {
         let n = self.told.taken;
-        self.told.take(self.counts, self.events.len(), e)?;
+        self.told.take(self.plain.counts(), self.events.len(), e)?;
         self.events[n] = e;
         Ok(())
     }
 
     fn ask(&self, t: usize, u: usize) -> Result<u32, CallerFault> {
-        declared(self.counts, t, u)?;
+        let counts = self.plain.counts();
+        declared(counts, t, u)?;
         let n = self.told.taken.min(self.events.len());
-        Ok(entry(self.counts, &self.events[..n], t, u))
+        Ok(entry(counts, &self.events[..n], t, u))
     }
 }
