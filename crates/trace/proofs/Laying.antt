@@ -1,5 +1,5 @@
 -- The entries that a section which was read gives again, with their offsets.
-use Rattle.std.proofs.Common.{◌≡◌, ℕ, zero, suc, true, ◌+◌, ◌-◌, ◌≤◌, List, [], ◌∷◌, map, length, Ok, Err, Result, sym, refl, ap, ◌∙◌, subst, arith, length-append}
+use Rattle.std.proofs.Common.{◌≡◌, ℕ, zero, suc, true, ◌+◌, ◌-◌, ◌≤◌, max, List, [], ◌∷◌, map, length, Ok, Err, Result, sym, refl, ap, ◌∙◌, subst, arith, length-append}
 use Rattle.format.specs.declared.fault.SectionFault.{SectionFault}
 use Rattle.format.specs.declared.kinds.SectionKind.{SectionKind}
 use Rattle.format.specs.declared.fault.SectionFault.TheVariants.{Bytes, Count}
@@ -47,6 +47,14 @@ skipped k t n bs rest le h =
       laid = out ∙ ap (items_laid_out (here t bs)) (sym e);
     }
 
+-- one entry of n
+pub laid_more : (k : SectionKind) (t n m : ℕ) (bs rest : List ℕ) (i : Item) → n ≡ suc m → Ok (i, rest) ≡ item_from k (here t bs) bs → laid_from k t n bs ≡ (here t bs, i) ∷ laid_from k t m rest
+laid_more k t n m bs rest i e h = ap (λ l. laid_from k t l bs) e ∙ ap (λ r. laid_next (here t bs) r (laid_from k t m)) (sym h)
+
+pub laid_none : (k : SectionKind) (t n : ℕ) (bs : List ℕ) (f : SectionFault) → Err f ≡ item_from k (here t bs) bs → laid_from k t n bs ≡ []
+laid_none k t zero bs f h = refl
+laid_none k t (suc n) bs f h = ap (λ r. laid_next (here t bs) r (laid_from k t n)) (sym h)
+
 -- what a section that was read says
 pub record Read (k : SectionKind) (low high t : ℕ) (bs rest : List ℕ) (laid : List (ℕ × Item)) (n : ℕ) : Type 0 where
   pub value : Ok (map (λ y. y.1) laid, rest) ≡ section_from k low high t bs
@@ -64,9 +72,13 @@ section_whole k low high t n bs more rest le w two skip =
       count = s.count;
     }
 
--- the same where the reader kept the file's length
-pub section_read : (k : SectionKind) (low high t tot n : ℕ) (bs more rest : List ℕ) → tot ≡ t → length bs ≤ t → within low high n ≡ true → Ok (n, more) ≡ two_from (here t bs) bs → Ok rest ≡ after (items_from k tot n more) → Read k low high t bs rest (laid_from k tot n more) n
-section_read k low high t tot n bs more rest e le w two skip = subst (λ (z : ℕ). Ok rest ≡ after (items_from k z n more) → Read k low high t bs rest (laid_from k z n more) n) (sym e) (section_whole k low high t n bs more rest le w two) skip
+-- the same of the section as it is kept, with the bytes from its first entry on and the file's length
+pub section_read : (k : SectionKind) (low high t tot n : ℕ) (bs more bytes rest : List ℕ) → bytes ≡ more → tot ≡ t → length bs ≤ t → within low high n ≡ true → Ok (n, more) ≡ two_from (here t bs) bs → Ok rest ≡ after (items_from k t n more) → Read k low high t bs rest (laid_from k (max tot (length bytes)) n bytes) n
+section_read k low high t tot n bs more bytes rest b e le w two skip =
+    let size = two_size (here t bs) bs (n, more) (sym two) in
+    let same = ap length b in
+    let m : t ≡ max tot (length bytes) = omega arith in
+    subst (λ (z : List (ℕ × Item)). Read k low high t bs rest z n) (λ i. laid_from k (m i) n (sym b i)) (section_whole k low high t n bs more rest le w two skip)
 
 few_next : (k : SectionKind) (p n : ℕ) (f : List ℕ → List (ℕ × Item)) (r : Result (Item × List ℕ) SectionFault) → ((bs : List ℕ) → length (f bs) ≤ n) → length (laid_next p r f) ≤ suc n
 few_next k p n f (Ok x) h = omega (arith, h x.1)

@@ -1,5 +1,5 @@
 -- What a section that was read stands for.
-use Rattle.std.specs.Prelude.{ℕ, List, map}
+use Rattle.std.specs.Prelude.{ℕ, List, map, length, max}
 use Rattle.format.specs.declared.kinds.SectionKind.{SectionKind}
 use Rattle.format.specs.declared.kinds.SectionKind.TheVariants.{Threads, Objects, Variables}
 use Rattle.trace.specs.declared.section.Section.{Section}
@@ -7,7 +7,7 @@ use Rattle.format.specs.Items.{Item, laid_from}
 
 -- its entries, each with the offset at which it begins
 abbrev pub laid_in : Section → List (ℕ × Item)
-laid_in s = laid_from s.kind s.reader.total s.count s.reader.rest.now
+laid_in s = laid_from s.kind (max s.total (length s.bytes.now)) s.count s.bytes.now
 
 abbrev pub items_in : Section → List Item
 items_in s = map (λ y. y.1) (laid_in s)

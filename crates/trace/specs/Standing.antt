@@ -1,8 +1,13 @@
 -- What the rules remember, as the definition has it.
-use Rattle.std.specs.Prelude.{ℕ, List, map, Option}
+use Rattle.std.specs.Prelude.{ℕ, List, map, None, Option}
 use Rattle.format.specs.declared.kinds.ObjectKind.{ObjectKind}
 use Rattle.format.specs.Standings.{Standing, standing}
 use Rattle.trace.specs.declared.rules.Rules.{Rules}
+use Rattle.trace.specs.declared.rules.lock.Lock.{Lock}
+
+-- an object that nobody holds
+abbrev pub free : ObjectKind → Lock
+free k = record { kind = k; holder = None }
 
 -- the kind of each object, by its number
 abbrev pub kinds_in : Rules → List ObjectKind

@@ -1,5 +1,5 @@
 -- What a trace that borrows from the file stands for.
-use Rattle.std.specs.Prelude.{◌≡◌, ℕ, ◌+◌, ◌/◌, length}
+use Rattle.std.specs.Prelude.{◌≡◌, ℕ, ◌+◌, ◌/◌, List, length, take}
 use Rattle.event.specs.declared.counts.Counts.{Counts}
 use Rattle.event.specs.Ranges.{nearest}
 use Rattle.format.specs.Codes.{items_laid_out}
@@ -9,9 +9,13 @@ use Rattle.format.specs.Trace.{Contents, contents}
 use Rattle.trace.specs.declared.trace.Trace.{Trace}
 use Rattle.trace.specs.Section.{items_in, laid_in}
 
+-- the bytes of its first events, as many as a file can have
+abbrev pub block_in : Trace → List ℕ
+block_in t = take 6000000 t.events.now
+
 -- how many events there are
 abbrev pub count_in : Trace → ℕ
-count_in t = length t.events.now / 6
+count_in t = length (block_in t) / 6
 
 -- its sections and the bytes of its events
 abbrev pub layout_of : Trace → Layout
@@ -33,7 +37,7 @@ counts_in t = nearest t.threads.count t.objects.count t.variables.count
 abbrev pub contents_of : Trace → Contents
 contents_of t =
     contents (items_in t.threads) (items_in t.objects) (items_in t.variables)
-    (got_events (counts_in t) 0 (count_in t) t.events.now)
+    (got_events (counts_in t) 0 (count_in t) (block_in t))
 
 -- the counts that a trace answers are those of its contents
 pub record Counted (t : Trace) : Type 0 where

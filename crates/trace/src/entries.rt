@@ -50,7 +50,7 @@ impl<'a> Section<'a> {
         ensures { shown result ≡ laid_in self.now }
     {
         Entries {
-            reader: self.reader,
+            reader: Reader::resume(self.bytes, self.total),
             kind: self.kind,
             left: self.count,
         }

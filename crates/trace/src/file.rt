@@ -1,12 +1,12 @@
 // A whole trace file.
-ghost use Rattle.std.specs.Prelude.{◌≡◌, ◌*◌, ◌/◌, ◌≤◌, length, IfOk, OnOk};
+ghost use Rattle.std.specs.Prelude.{◌≡◌, ◌*◌, ◌/◌, ◌≤◌, length, map, IfOk, OnOk};
 ghost use Rattle.format.specs.Parse.{map_ok};
 ghost use Rattle.trace.specs.Spots.{item_of};
 ghost use Rattle.trace.specs.Section.{items_in};
 ghost use Rattle.format.specs.Events.{got_events};
 ghost use Rattle.format.specs.Standings.{kind_of, kinds_of, kind_table, ruled_from};
 ghost use Rattle.format.specs.Trace.{read_trace};
-ghost use Rattle.trace.specs.Standing.{standing_of, kinds_in};
+ghost use Rattle.trace.specs.Standing.{free, standing_of, kinds_in};
 ghost use Rattle.trace.specs.Whole.{contents_of, count_in, Laid, Counted};
 ghost use Rattle.format.specs.Exact.{Answers};
 
@@ -14,6 +14,7 @@ use crate::entry::Entry;
 use crate::event_bytes::event;
 use crate::layout::sections;
 use crate::rules::Rules;
+use crate::rules::lock::Lock;
 use crate::section::Section;
 use crate::trace::Trace;
 use format::fault::OrderFault;
@@ -28,15 +29,17 @@ fn kind_of(e: Entry<'_>) -> ObjectKind
     }
 }
 
-// The kind of each object, by its number; what is not declared is no mutex. The table has room for the most that a file declares, and takes no heap.
-fn kinds(objects: Section<'_>) -> [ObjectKind; 512]
+// Each object as the mutex rule sees it, by its number: nobody holds one yet, and what is not declared is no mutex. The table has room for the most that a
+// file declares, and takes no heap.
+fn locks(objects: Section<'_>) -> [Lock; 512]
     requires { objects.count ≤ 512 }
-    ensures { result ≡ kind_table (kinds_of (items_in objects.entry)) }
+    ensures { result ≡ map free (kind_table (kinds_of (items_in objects.entry))) }
 {
+    // The table is filled at once and then only what is declared is written: a `map` over a table of kinds takes as long as reading a file of some hundred events.
+    let mut table = [Lock::free(ObjectKind::Semaphore); 512];
     // An entry's index is its object's number, so it is written there: what a loop over `iter_mut` of the table has lent, no invariant can speak of.
-    let mut table = [ObjectKind::Semaphore; 512];
     for (i, e) in objects.entries().enumerate() {
-        table[i] = kind_of(e);
+        table[i] = Lock::free(kind_of(e));
     }
     table
 }
@@ -62,7 +65,7 @@ fn scan(bytes: &[u8]) -> Result<Trace<'_>, OrderFault>
     ensures events { IfOk result (λ t. length (contents_of t).events ≡ count_in t) }
 {
     let trace = sections(bytes)?;
-    let rules = Rules::new(trace.counts(), kinds(trace.objects));
+    let rules = Rules::new(trace.counts(), locks(trace.objects));
     check_events(rules, trace.events)?;
     Ok(trace)
 }

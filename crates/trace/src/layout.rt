@@ -51,7 +51,7 @@ pub(crate) fn sections(bytes: &[u8]) -> Result<Trace<'_>, SectionFault>
     ensures value { map_ok layout_of result ≡ layout bytes.now }
     ensures laid { IfOk result Laid }
     ensures few { IfOk result (λ t. t.objects.count ≤ 512) }
-    ensures size { IfOk result (λ t. length t.events.now ≡ 6 * count_in t) }
+    ensures size { IfOk result (λ t. (length t.events.now ≡ 6 * count_in t) × (length t.events.now ≤ 6000000)) }
 {
     let mut r = Reader::new(bytes);
     magic(&mut r)?;

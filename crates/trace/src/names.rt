@@ -10,7 +10,9 @@ use format::fault::SectionFault;
 pub fn good_front(s: &[u8], n: usize) -> bool
     ensures { result ≡ all_good_bytes (take n s.now) }
 {
-    s.iter().take(n).all(|b| (33..=126).contains(b))
+    // The part is cut off once, so that no count is kept beside the bytes, and each is compared as it is.
+    let most = n.min(s.len());
+    s[..most].iter().all(|b| *b >= 33 && *b <= 126)
 }
 
 // The name of the entry that begins at `start`.

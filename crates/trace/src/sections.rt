@@ -49,11 +49,13 @@ pub(crate) fn section<'a>(
     if !can_have(kind, count) {
         return Err(SectionFault::Count { offset: start });
     }
-    let reader = *r;
+    let bytes = r.rest();
+    let total = r.total();
     skip(r, kind, count)?;
     Ok(Section {
         kind,
         count,
-        reader,
+        bytes,
+        total,
     })
 }

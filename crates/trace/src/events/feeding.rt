@@ -1,5 +1,5 @@
 // The events of a trace, one by one.
-ghost use Rattle.std.specs.Prelude.{◌≡◌, ◌/◌, ◌≤◌, length};
+ghost use Rattle.std.specs.Prelude.{◌≡◌, ◌/◌, length, take};
 ghost use Rattle.format.specs.Events.{got_events};
 ghost use Rattle.trace.specs.Feed.{coming, Fed};
 ghost use Rattle.std.specs.Iterator.{at_most};
@@ -32,14 +32,14 @@ impl<'a> Events<'a> {
         self.counts
     }
 
-    // The events of a block, from the first one on.
-    pub(crate) fn starting(rest: &'a [u8], counts: Counts) -> Events<'a>
-        requires { length rest.now ≤ 6000000 }
+    // The events of a block, from the first one on: no more than a file can have.
+    pub(crate) fn starting(block: &'a [u8], counts: Counts) -> Events<'a>
         ensures counts { result.counts ≡ counts }
-        ensures events { coming result ≡ got_events counts 0 (length rest.now / 6) rest.now }
+        ensures events { coming result ≡ got_events counts 0 (length (take 6000000 block.now) / 6) (take 6000000 block.now) }
     {
+        let most = block.len().min(6_000_000);
         Events {
-            rest,
+            rest: &block[..most],
             counts,
             place: 0,
         }

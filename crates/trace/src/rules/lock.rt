@@ -1,6 +1,7 @@
 // An object as the mutex rule sees it.
 ghost use Rattle.std.specs.Prelude.{◌≡◌, true, cond};
 ghost use Rattle.format.specs.Standings.{is_mutex, is_free, is_holder};
+ghost use Rattle.trace.specs.Standing.{free};
 
 use format::kinds::ObjectKind;
 
@@ -12,6 +13,13 @@ pub(crate) struct Lock {
 }
 
 impl Lock {
+    // An object of this kind that nobody holds.
+    pub(crate) fn free(kind: ObjectKind) -> Lock
+        ensures { result ≡ free kind }
+    {
+        Lock { kind, holder: None }
+    }
+
     // Whether a thread may acquire it: a mutex only while nobody holds it.
     pub(crate) fn is_open(&self) -> bool
         ensures { result ≡ cond (is_mutex self.now.kind) (is_free self.now.holder) true }

@@ -9,22 +9,22 @@ use crate::rules::Rules;
 use crate::rules::lock::Lock;
 use event::{Counts, Event, Letter};
 use format::fault::OrderFault;
-use format::kinds::{ObjectKind, Stage};
+use format::kinds::Stage;
 
 // An event that is judged or followed is one that the counts of these rules declare. That ties two values, so no type of either says it.
 impl Rules {
-    // Thread 0 runs, the others are unborn, and nobody holds a mutex.
-    pub(crate) fn new(counts: Counts, kinds: [ObjectKind; 512]) -> Rules
+    // Thread 0 runs, and the others are unborn. The objects are as they are given.
+    pub(crate) fn new(counts: Counts, objects: [Lock; 512]) -> Rules
         ensures counts { result.counts ≡ counts }
-        ensures kinds { kinds_in result ≡ kinds }
-        ensures standing { standing_of result ≡ fresh }
+        ensures objects { result.objects ≡ objects }
+        ensures stages { result.stages ≡ fresh.stages }
     {
         let mut stages = [Stage::Unborn; 16];
         stages[0] = Stage::Running;
         Rules {
             counts,
             stages,
-            objects: kinds.map(|kind| Lock { kind, holder: None }),
+            objects,
         }
     }
 

@@ -1,5 +1,5 @@
 // What a trace that was read has.
-ghost use Rattle.std.specs.Prelude.{◌≡◌};
+ghost use Rattle.std.specs.Prelude.{◌≡◌, ◌≤◌};
 ghost use Rattle.trace.specs.Feed.{coming};
 ghost use Rattle.trace.specs.Whole.{contents_of, counts_in, count_in};
 
@@ -39,9 +39,10 @@ impl<'a> Trace<'a> {
 
     // How many events there are.
     pub fn len(&self) -> usize
-        ensures { result ≡ count_in self.now }
+        ensures count { result ≡ count_in self.now }
+        ensures few { result ≤ 1000000 }
     {
-        self.events.len() / 6
+        self.events.len().min(6_000_000) / 6
     }
 
     // The events in the order of the file.
