@@ -2,6 +2,8 @@
 
 // Tests by table: trace files written as short scripts, and what must come of them.
 #[cfg(test)]
+mod callers;
+#[cfg(test)]
 mod keepers;
 #[cfg(test)]
 mod monitors;

@@ -2,10 +2,14 @@
 #![tactic(auto)]
 
 use anyhow::anyhow;
-use output::{Overlaps, respond};
+use output::{ListOverlaps, respond_or};
 
 fn main(rt: HostRuntime) -> anyhow::Result<()> {
-    if respond::<Overlaps, _, _>(rt.alloc(), &mut rt.stdin(), &mut rt.stdout())? {
+    if respond_or::<ListOverlaps, _, _, anyhow::Error>(
+        rt.alloc(),
+        &mut rt.stdin(),
+        &mut rt.stdout(),
+    )? {
         Ok(())
     } else {
         Err(anyhow!("refused"))

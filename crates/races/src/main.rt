@@ -2,10 +2,14 @@
 #![tactic(auto)]
 
 use anyhow::anyhow;
-use output::{Races, respond};
+use output::{ListRaces, respond_or};
 
 fn main(rt: HostRuntime) -> anyhow::Result<()> {
-    if respond::<Races, _, _>(rt.alloc(), &mut rt.stdin(), &mut rt.stdout())? {
+    if respond_or::<ListRaces, _, _, anyhow::Error>(
+        rt.alloc(),
+        &mut rt.stdin(),
+        &mut rt.stdout(),
+    )? {
         Ok(())
     } else {
         Err(anyhow!("refused"))
