@@ -1,5 +1,5 @@
 -- What a trace that borrows from the file stands for.
-use Rattle.std.specs.Prelude.{◌≡◌, ℕ, ◌+◌, ◌/◌, List, length, take}
+use Rattle.std.specs.Prelude.{◌≡◌, ℕ, ◌+◌, ◌/◌, ◌≤◌, List, length, take}
 use Rattle.event.specs.declared.counts.Counts.{Counts}
 use Rattle.event.specs.Ranges.{nearest}
 use Rattle.format.specs.Codes.{items_laid_out}
@@ -12,6 +12,10 @@ use Rattle.trace.specs.Section.{items_in, laid_in}
 -- the bytes of its first events, as many as a file can have
 abbrev pub block_in : Trace → List ℕ
 block_in t = take 6000000 t.events.now
+
+-- no more than that stand there
+abbrev pub Few : Trace → Type 0
+Few t = length t.events.now ≤ 6000000
 
 -- how many events there are
 abbrev pub count_in : Trace → ℕ

@@ -7,7 +7,7 @@ ghost use Rattle.format.specs.Events.{got_events};
 ghost use Rattle.format.specs.Standings.{kind_of, kinds_of, kind_table, ruled_from};
 ghost use Rattle.format.specs.Trace.{read_trace};
 ghost use Rattle.trace.specs.Standing.{free, standing_of, kinds_in};
-ghost use Rattle.trace.specs.Whole.{contents_of, count_in, Laid, Counted};
+ghost use Rattle.trace.specs.Whole.{contents_of, count_in, Laid, Few, Counted};
 ghost use Rattle.format.specs.Exact.{Answers};
 
 use crate::entry::Entry;
@@ -62,6 +62,7 @@ fn check_events(mut rules: Rules, events: &[u8]) -> Result<(), OrderFault>
 fn scan(bytes: &[u8]) -> Result<Trace<'_>, OrderFault>
     ensures value { map_ok contents_of result ≡ read_trace bytes.now }
     ensures laid { IfOk result Laid }
+    ensures few { IfOk result Few }
     ensures events { IfOk result (λ t. length (contents_of t).events ≡ count_in t) }
 {
     let trace = sections(bytes)?;
@@ -75,6 +76,7 @@ pub fn read(bytes: &[u8]) -> Result<Trace<'_>, OrderFault>
     ensures value { map_ok contents_of result ≡ read_trace bytes.now }
     ensures exact { Answers bytes.now (map_ok contents_of result) }
     ensures laid { IfOk result Laid }
+    ensures few { IfOk result Few }
     ensures counted { IfOk result Counted }
 {
     scan(bytes)

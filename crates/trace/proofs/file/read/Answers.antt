@@ -8,4 +8,4 @@ returns c =
     let bs = c.args.bytes.now in
     let s = c.scan.ensures in
     let e = answers bs _ (all_bytes bs c.type_inv.bytes) s.value in
-    record { value = s.value; exact = e; laid = s.laid; counted = all_counted bs c.scan.result s.laid s.events e }
+    record { value = s.value; exact = e; laid = s.laid; few = s.few; counted = all_counted bs c.scan.result s.laid s.events e }

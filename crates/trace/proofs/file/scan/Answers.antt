@@ -22,6 +22,7 @@ returns c =
           scan_whole c.args.bytes.now t (Ok tt) (kinds_in r) r.counts (standing_of r) c.in_ok-trace.ensures.value c.in_ok-trace.ensures.laid
           (given_kinds r ks objects) same (given_fresh r ks objects c.new-rules.ensures.stages) few c.in_ok-check_events.ensures.value;
       laid = c.in_ok-trace.ensures.laid;
+      few = few;
       events = ap (λ b. length (got_events (counts_in t) 0 (length b / 6) b)) held ∙ ap (λ d. length (got_events d 0 (length t.events.now / 6) t.events.now)) (sym same) ∙ c.in_ok-check_events.ensures.length ∙ ap (λ b. length b / 6) (sym held);
     }
 
