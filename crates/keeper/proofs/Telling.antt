@@ -1,5 +1,5 @@
 -- One event more: what was told stays sound, and fits.
-use Rattle.std.proofs.Common.{◌≡◌, ℕ, ◌<◌, ◌≤◌, Bool, true, false, cond, ltb, leb, List, [], ◌∷◌, ◌++◌, length, Some, None, Ok, Err, Option, Result, refl, subst, ap₂, ⊎_elim, arith, ltb-true, leb-true}
+use Rattle.std.proofs.Common.{◌≡◌, ℕ, ◌<◌, ◌≤◌, Bool, true, false, cond, ltb, leb, List, [], ◌∷◌, ◌++◌, length, Some, None, Ok, Err, Option, Result, refl, sym, subst, ap₂, ⊎_elim, arith, ltb-true, lt-ltb, leb-true}
 use mathlib.Core.List.Memᴰ
 use Rattle.std.proofs.lemmas.List.{length_push}
 use Rattle.std.proofs.lemmas.Bool.{and_parts}
@@ -41,6 +41,12 @@ admitted c capacity n last e h = go (in_range c e) refl (follows last e.place) r
     go true p true q false r s = refusal s
     go true p false q d r s = refusal s
     go false p b q d r s = refusal s
+
+-- and an event of which that holds passes the test
+pub admits : (c : Counts) (capacity n : ℕ) (last : Option ℕ) (e : Event) → Admitted c capacity n last e → good ≡ admitting c capacity n last e
+admits c capacity n last e a =
+    let r : true ≡ ltb n capacity = sym (lt-ltb _ _ a.room) in
+    λ i. cond (sym a.ranged i) (cond (sym a.placed i) (cond (r i) good (Err (Full capacity))) (Err (Place e.place))) (Err (Range e.place))
 
 pub admitted_told : (c : Counts) (capacity n : ℕ) (last : Option ℕ) (e : Event) (es : List Event) → n ≡ length es → last ≡ last_place es → Admitted c capacity n last e → Admitted c capacity (length es) (last_place es) e
 admitted_told c capacity n last e es p q a = record { ranged = a.ranged; placed = subst (λ l. follows l e.place ≡ true) q a.placed; room = omega (arith, a.room) }
