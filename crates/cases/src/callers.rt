@@ -1,15 +1,18 @@
-// Callers of the library whose own structs and results hold its types. With a fact in a `Walk`, a `Trace` or a `Section` the toolchain covers none of them, so these
-// tests hold those types to having none.
+// Callers of the library whose own structs, pairs, options and results hold its types. With a fact in a `Walk`, a `Trace` or a `Section` the toolchain does not cover
+// those that hold one, so these tests hold the three types to having none. `Lines` has one, and its callers are covered.
+ghost use Rattle.std.specs.Prelude.{IfOk, IfSome};
+ghost use Rattle.output.specs.Programs.{Responds};
+
 use crate::script::{NOTHING, SETPOINT, file};
 use detect::{Run, Step};
 use event::{CallerFault, Counts, Event};
 use format::fault::OrderFault;
 use keeper::{Keeper, Walk};
 use output::{Listing, Races, respond};
-use sink::{Sink, Tally};
+use sink::{Lines, Sink, Tally};
 use source::Source;
 use std::alloc::Global;
-use std::io;
+use std::io::{self, Read, Write};
 use std::test::Fail;
 use trace::{Section, Trace, read};
 
@@ -17,6 +20,32 @@ use trace::{Section, Trace, read};
 fn walk_for<'a>(threads: usize, told: &'a mut [Event]) -> Result<Walk<'a>, CallerFault> {
     let counts = Counts::new(threads, 1, 1)?;
     Ok(Walk::new(counts, told))
+}
+
+// a walk, if there is room for an event
+fn walk_if<'a>(counts: Counts, told: &'a mut [Event]) -> Option<Walk<'a>> {
+    if told.is_empty() {
+        return None;
+    }
+    Some(Walk::new(counts, told))
+}
+
+// lines that are made only where there is room for one
+fn lines_on<'a>(bytes: &'a mut [u8]) -> Result<Lines<'a>, CallerFault> {
+    let lines = Lines::new(bytes);
+    if lines.capacity() == 0 {
+        return Err(CallerFault::Table { size: 21 });
+    }
+    Ok(lines)
+}
+
+// a trace and a table for its events, as a pair
+fn pair_of<'a>(
+    bytes: &'a [u8],
+    told: &'a mut [Event],
+) -> Result<(Trace<'a>, &'a mut [Event]), OrderFault> {
+    let trace = read(bytes)?;
+    Ok((trace, told))
 }
 
 // a trace and a table for its events
@@ -76,10 +105,15 @@ fn stepped(t: &Trace<'_>, told: &mut [Event]) -> Result<(u32, u64), CallerFault>
     Ok((steps, run.totals().found))
 }
 
-// a caller that takes any listing
-fn listed<L: Listing>(heap: Global, input: &[u8], output: &mut Vec<u8>) -> io::Result<bool> {
-    let mut rest = input;
-    respond::<L, _, _>(heap, &mut rest, output)
+// a caller that takes any listing, and says of it what the library says
+fn listed<L: Listing, R: Read, W: Write>(
+    heap: Global,
+    input: &mut R,
+    output: &mut W,
+) -> io::Result<bool>
+    ensures { IfOk result (λ listed. IfSome (R.remaining input.old) (λ bytes. Responds L.Listing.lists bytes (W.contents output.old) (W.contents output.new) listed)) }
+{
+    respond::<L, R, W>(heap, input, output)
 }
 
 #[test]
@@ -88,6 +122,23 @@ fn a_walk_in_a_result(rt: HostRuntime) -> Result<(), Fail> {
     let keeper = walk_for(3, &mut told)?;
     assert_eq!(rt; keeper.counts().threads(), 3);
     assert_eq!(rt; keeper.capacity(), 4);
+    let none = walk_if(keeper.counts(), &mut []);
+    assert!(rt; none.is_none(), "no room");
+    let mut one = [NOTHING; 1];
+    let Some(other) = walk_if(keeper.counts(), &mut one) else {
+        return Err(Fail::new("no walk"));
+    };
+    assert_eq!(rt; other.capacity(), 1);
+    Ok(())
+}
+
+#[test]
+fn lines_in_a_result(rt: HostRuntime) -> Result<(), Fail> {
+    let mut few = [0; 20];
+    assert!(rt; lines_on(&mut few).is_err(), "no room");
+    let mut bytes = [0; 42];
+    let lines = lines_on(&mut bytes)?;
+    assert_eq!(rt; lines.capacity(), 2);
     Ok(())
 }
 
@@ -97,6 +148,9 @@ fn a_trace_beside_a_table(rt: HostRuntime) -> Result<(), Fail> {
     let mut told = [NOTHING; 16];
     let work = work_on(&bytes, &mut told)?;
     assert_eq!(rt; work.sizes(), (10, 16));
+    let mut more = [NOTHING; 12];
+    let (trace, table) = pair_of(&bytes, &mut more)?;
+    assert_eq!(rt; (trace.len(), table.len()), (10, 12));
     let mut copy = [0; 8];
     let names = names_of(&bytes, &mut copy)?;
     assert_eq!(rt; names.sizes(), (1, 8));
@@ -116,7 +170,11 @@ fn a_run_with_a_walk_by_steps(rt: HostRuntime) -> Result<(), Fail> {
 fn a_listing_of_any_kind(rt: HostRuntime) -> Result<(), Fail> {
     let heap = rt.alloc();
     let bytes = file(heap, 2, "m", 1, "0f1 1b1 0w0 1w0")?;
+    let mut rest: &[u8] = &bytes;
     let mut text = Vec::new(heap);
-    assert!(rt; listed::<Races>(heap, &bytes, &mut text)?, "a list");
+    assert!(rt;
+        listed::<Races, _, _>(heap, &mut rest, &mut text)?,
+        "a list"
+    );
     Ok(())
 }
