@@ -12,24 +12,19 @@ pub reported : {R : Type 0} (step : R → Two → R) (capacity taken : ℕ) (bef
     Offered step capacity taken before f w d fs taken' after found written dropped → f ≡ 0 → w ≡ 0 → d ≡ 0 → length fs ≤ most →
     Reported step (capacity - taken) before after fs found written dropped × (taken' ≡ taken + written)
 reported step capacity taken before after fs f w d taken' found written dropped h p q r few =
-    let a = h.all (omega arith) in
-    let b = h.wrote (omega arith) in
-    let e = h.left (omega arith) in
-    let first : written ≡ min (capacity - taken) (length fs) = b ∙ ap (λ n. n + min (capacity - taken) (length fs)) q ∙ zero_left _ in (
+    let room = capacity - taken in
+    let all = h.all (omega arith) in
+    let wrote = h.wrote (omega arith) in
+    let left = h.left (omega arith) in
+    let first : written ≡ min room (length fs) = omega arith in (
       record {
-        all = a ∙ ap (λ n. n + length fs) p ∙ zero_left _;
-        sum = a ∙ ap (λ n. n + length fs) p ∙ zero_left _ ∙ halves (capacity - taken) (length fs) ∙ (λ i. sym first i + sym (e ∙ ap (λ n. n + (length fs - (capacity - taken))) r ∙ zero_left _) i);
+        all = omega arith;
+        sum = omega arith;
         first_ones = first;
-        steps = h.kept ∙ ap (fold step before) (sym (take_min (capacity - taken) fs) ∙ ap (λ n. take n fs) (sym first));
+        steps = h.kept ∙ ap (fold step before) (sym (take_min room fs) ∙ ap (λ n. take n fs) (sym first));
       },
       h.took ∙ ap (λ n. taken + n) (sym first),
     )
-  where
-    zero_left : (n : ℕ) → 0 + n ≡ n
-    zero_left n = omega arith
-
-    halves : (n m : ℕ) → m ≡ min n m + (m - n)
-    halves n m = omega arith
 
 -- the same of a sink and of totals
 pub reports : {O : Type 0} (o : Sinking O) (sink sink' : O) (fs : List Two) (t : Totals) → OffersTo o sink none fs sink' t → length fs ≤ most →

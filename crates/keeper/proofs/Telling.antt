@@ -17,15 +17,12 @@ use Rattle.event.proofs.Intaking.{took_sound, took_room}
 use Rattle.order.specs.Marks.{entry}
 use Rattle.order.proofs.Entries.{entry_right, entry_once}
 use Rattle.order.proofs.Front.{same_place}
+use Rattle.stamp.specs.Slotting.{refusal}
 use Rattle.keeper.specs.Telling.{Fits, telling, undeclared, unless, asking}
 
 -- the good answer
 abbrev good : Result (Unit {0}) CallerFault
 good = Ok tt
-
--- an answer that was refused is not a good one
-refusal : {A : Type 0} {f : CallerFault} → good ≡ Err f → A
-refusal e = absurd (let z : ◌≡◌ {A = ℕ} 0 1 = cc in omega arith)
 
 -- what a test that was passed says
 pub record Admitted (c : Counts) (capacity n : ℕ) (last : Option ℕ) (e : Event) : Type 0 where

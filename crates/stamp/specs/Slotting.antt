@@ -76,7 +76,7 @@ abbrev good : Result (Unit {0}) CallerFault
 good = Ok tt
 
 -- an answer that was refused is not the good one
-refusal : {A : Type 0} {f : CallerFault} → good ≡ Err f → A
+pub refusal : {A : Type 0} {f : CallerFault} → good ≡ Err f → A
 refusal e = absurd (let z : ◌≡◌ {A = ℕ} 0 1 = cc in omega arith)
 
 -- a start is taken where both tables are large enough
@@ -84,8 +84,8 @@ pub started_fits : (c : Counts) (m n : ℕ) → Ok tt ≡ starting c m n → (c.
 started_fits c m n h = go (nat_lt m c.threads) refl (nat_lt n (slots c)) refl h
   where
     go : (a : Bool) → nat_lt m c.threads ≡ a → (b : Bool) → nat_lt n (slots c) ≡ b → good ≡ unless_lacking (cond a (Some c.threads) (cond b (Some (slots c)) None)) (Ok tt) → (c.threads ≤ m) × (slots c ≤ n)
-    go true p b q e = cc
-    go false p true q e = cc
+    go true p b q e = refusal e
+    go false p true q e = refusal e
     go false p false q e = (ltb-false _ _ p, ltb-false _ _ q)
 
 -- an event is taken where the tables are large enough and it is in range
