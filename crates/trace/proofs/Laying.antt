@@ -72,13 +72,18 @@ section_whole k low high t n bs more rest le w two skip =
       count = s.count;
     }
 
+-- the same where the reader kept the file's length
+pub section_read : (k : SectionKind) (low high t tot n : ℕ) (bs more rest : List ℕ) → tot ≡ t → length bs ≤ t → within low high n ≡ true → Ok (n, more) ≡ two_from (here t bs) bs → Ok rest ≡ after (items_from k tot n more) → Read k low high t bs rest (laid_from k tot n more) n
+section_read k low high t tot n bs more rest e le w two skip = subst (λ (z : ℕ). Ok rest ≡ after (items_from k z n more) → Read k low high t bs rest (laid_from k z n more) n) (sym e) (section_whole k low high t n bs more rest le w two) skip
+
 -- the same of the section as it is kept, with the bytes from its first entry on and the file's length
-pub section_read : (k : SectionKind) (low high t tot n : ℕ) (bs more bytes rest : List ℕ) → bytes ≡ more → tot ≡ t → length bs ≤ t → within low high n ≡ true → Ok (n, more) ≡ two_from (here t bs) bs → Ok rest ≡ after (items_from k t n more) → Read k low high t bs rest (laid_from k (max tot (length bytes)) n bytes) n
-section_read k low high t tot n bs more bytes rest b e le w two skip =
+pub section_kept : (k : SectionKind) (low high t tot n : ℕ) (bs more bytes rest : List ℕ) → bytes ≡ more → tot ≡ t → length bs ≤ t → within low high n ≡ true → Ok (n, more) ≡ two_from (here t bs) bs → Ok rest ≡ after (items_from k t n more) → Read k low high t bs rest (laid_from k (max tot (length bytes)) n bytes) n
+section_kept k low high t tot n bs more bytes rest b e le w two skip =
     let size = two_size (here t bs) bs (n, more) (sym two) in
     let same = ap length b in
-    let m : t ≡ max tot (length bytes) = omega arith in
-    subst (λ (z : List (ℕ × Item)). Read k low high t bs rest z n) (λ i. laid_from k (m i) n (sym b i)) (section_whole k low high t n bs more rest le w two skip)
+    let m : max tot (length bytes) ≡ t = omega arith in
+    let read = section_read k low high t (max tot (length bytes)) n bs more rest m le w two (skip ∙ ap (λ z. after (items_from k z n more)) (sym m)) in
+    subst (λ z. Read k low high t bs rest (laid_from k (max tot (length bytes)) n z) n) (sym b) read
 
 few_next : (k : SectionKind) (p n : ℕ) (f : List ℕ → List (ℕ × Item)) (r : Result (Item × List ℕ) SectionFault) → ((bs : List ℕ) → length (f bs) ≤ n) → length (laid_next p r f) ≤ suc n
 few_next k p n f (Ok x) h = omega (arith, h x.1)

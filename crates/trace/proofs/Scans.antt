@@ -1,6 +1,6 @@
 -- The events of a file after its sections.
 use Rattle.std.proofs.Common.{◌≡◌, ℕ, ◌/◌, ◌≤◌, min, List, length, Ok, Err, Result, sym, refl, ap, ◌∙◌, arith}
-use Rattle.std.proofs.lemmas.List.{take_all}
+use Rattle.std.proofs.lemmas.List.{take_all, length-take}
 use Rattle.event.specs.declared.record.Event.{Event}
 use Rattle.event.specs.declared.counts.Counts.{Counts}
 use Rattle.event.specs.Ranges.{nearest}
@@ -28,6 +28,10 @@ map_map f g (Err e) = refl
 
 pub all_held : (n : ℕ) → n ≤ 1000000 → min n 1000000 ≡ n
 all_held n few = omega arith
+
+-- the events of any trace are read from no more bytes than a file can have
+pub block_few : (t : Trace) → length (block_in t) ≤ 6000000
+block_few t = omega (arith, length-take 6000000 t.events.now)
 
 -- no byte of an event is past those that a file can have
 pub block_held : (t : Trace) → length t.events.now ≤ 6000000 → block_in t ≡ t.events.now

@@ -4,7 +4,7 @@ use Rattle.format.specs.Items.{items_from, after}
 use Rattle.format.specs.Names.{within}
 use Rattle.format.proofs.Inverse.{within_true}
 use Rattle.trace.specs.Section.{fewest, most}
-use Rattle.trace.proofs.Laying.{section_read}
+use Rattle.trace.proofs.Laying.{section_kept}
 use Rattle.trace.proofs.sections.section.Goals as goal
 
 pub returns : goal.returns
@@ -14,7 +14,7 @@ returns c =
     let t = c.two.new.self.total in
     let w : within (fewest c.args.kind) (most c.args.kind) n ≡ true = search rules in
     let s =
-    section_read c.args.kind (fewest c.args.kind) (most c.args.kind) r.total c.total-total.result n r.rest.now c.two.new.self.rest.now c.rest-bytes.result.now c.skip.new.r.rest.now
+    section_kept c.args.kind (fewest c.args.kind) (most c.args.kind) r.total c.total-total.result n r.rest.now c.two.new.self.rest.now c.rest-bytes.result.now c.skip.new.r.rest.now
     c.rest-bytes.ensures (c.total-total.ensures ∙ c.in_ok-count.ensures.total) r.within w
     (c.in_ok-count.ensures.value ∙ ap (λ p. two_from p r.rest.now) c.offset-start.ensures.value)
     (c.in_ok-skip.ensures.value ∙ ap (λ t. after (items_from c.args.kind t n c.two.new.self.rest.now)) c.in_ok-count.ensures.total) in
